@@ -23,6 +23,7 @@ from reference import STATUSES  # noqa: E402
 
 WORK_HEADING = " priority      jobs     steps     least   longest  response  blocking preempted task\n"
 WAITS_HEADING = "\n   queued     worst     total      late     worst     apart task\n"
+FRAMES_HEADING = "\n   frames     words task\n"
 OBJECTS_HEADING = "\n  ceiling     calls    queued object\n"
 USAGES_HEADING = "\n    calls   longest task object\n"
 INSTANTS_HEADING = "\n    steps at time\n"
@@ -30,10 +31,11 @@ HERE = ("ready", "running")
 
 
 class Actor:
-    """What has happened to a task or handler: when its jobs began, after how many steps, and with which step they were over; its steps; its waits; how late it was."""
+    """What has happened to a task or handler: when its jobs began, after how many steps, and with which step they were over; its steps; its waits; how late it was;
+    how many frames it had before each step, and how many words these had."""
 
     def __init__(self):
-        self.jobs, self.over, self.steps, self.preempted, self.waits, self.late = [], [], [], 0, [], []
+        self.jobs, self.over, self.steps, self.preempted, self.waits, self.late, self.frames, self.words = [], [], [], 0, [], [], [], []
 
     def job_of(self, step):
         """The number of the job that has a step of the run."""
@@ -97,9 +99,13 @@ class Measures:
         """Takes a step, unless the clock passes the time with it."""
         world = self.world
         ran, now, places, inside, delivered = world.running, world.now, world.places(), world.inside(world.running), world.delivered
+        frames = world.one(ran).frames[world.one(ran).below :]
+        counted, words = len(frames), sum(len(frame.locals) + len(frame.stack) for frame in frames)
         world.step()
         if world.is_past(until):
             return False
+        self.actors[ran].frames.append(counted)
+        self.actors[ran].words.append(words)
         later, over = world.now > now, ran >= len(world.tasks) and world.delivered > delivered
         if not self.instants or self.instants[-1][1] != now:
             self.instants.append([0, now])
@@ -143,6 +149,7 @@ class Measures:
         shown = [(task, actor) for number, (task, actor) in enumerate(zip(world.everyone(), self.actors)) if number < len(world.tasks) or actor.jobs]
         yield WORK_HEADING, [("task", [task.base, *actor.work(self.blocking(task.base))], [task.name]) for task, actor in shown]
         yield WAITS_HEADING, [("wait", actor.waiting(), [task.name]) for task, actor in shown]
+        yield FRAMES_HEADING, [("frames", [max(actor.frames, default=int(task in world.tasks)), max(actor.words, default=0)], [task.name]) for task, actor in shown]
         yield OBJECTS_HEADING, [("object", [world.objects[o][0], *numbers], [world.object(o)]) for o, numbers in enumerate(self.objects)]
         used = [(task, o, usage) for task, usages in zip(world.everyone(), self.usages) for o, usage in enumerate(usages) if usage.calls or usage.longest()]
         yield USAGES_HEADING, [("inside", [usage.calls, usage.longest()], [task.name, world.object(o)]) for task, o, usage in used]

@@ -5,11 +5,12 @@ ghost use Rattle.image_laws.specs.Whole.{IsWhole};
 ghost use Rattle.kernel.specs.Calm.{IsRunner};
 ghost use Rattle.kernel.specs.State.{Line as KernelLine, Outcome as KernelOutcome};
 ghost use Rattle.tasking.specs.Held.{kernel_of};
-ghost use Rattle.execution.specs.Ahead.{next_address, next_asking, next_raising};
+ghost use Rattle.execution.specs.Ahead.{next_address, next_asking, next_frames, next_raising};
 ghost use Rattle.execution.specs.Saving.{AreContentsOf};
 ghost use Rattle.execution.specs.Held.{Leads, lines_of, tasks_of, world_of, world_with};
 
 use crate::contents::Contents;
+use crate::frame_use::FrameUse;
 use crate::line::Line;
 use crate::rooms::Rooms;
 use crate::state::State;
@@ -135,6 +136,14 @@ impl<'a, 's, R: Ready, D: Delays> Execution<'a, 's, R, D> {
     {
         let task = self.runner()?;
         Some(self.state().address(task))
+    }
+
+    /// What the task or handler that takes the next step has of frames, unless there is an outcome; nothing changes.
+    pub fn frames_ahead(&self) -> Option<FrameUse>
+        ensures { result ≡ next_frames (world_of self.now) }
+    {
+        let task = self.runner()?;
+        Some(self.state().frames(task))
     }
 
     /// A copy of the words and the frames.

@@ -4,6 +4,7 @@
 mod comparing;
 mod contents;
 mod execution_of;
+mod frame_use;
 mod line;
 mod parameters;
 mod rooms;
@@ -13,6 +14,7 @@ mod state;
 
 pub use contents::Contents;
 pub use execution_of::{Advance, Execution};
+pub use frame_use::FrameUse;
 pub use line::Line;
 pub use rooms::Rooms;
 pub use task_steps::{Asking, Cause, Raising};

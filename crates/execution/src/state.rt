@@ -14,6 +14,7 @@ ghost use Rattle.task_steps.specs.Asked.{asking_ahead};
 ghost use Rattle.task_steps.specs.Raised.{raising_ahead};
 ghost use Rattle.kernel.specs.Interrupts.{actor_if};
 ghost use Rattle.tasking.specs.Held.{is_handler, kernel_of, partition_of};
+ghost use Rattle.execution.specs.Ahead.{frame_use};
 ghost use Rattle.execution.specs.Saving.{AreContentsOf};
 ghost use Rattle.execution.specs.Held.{begun, body_state, prepared, rest_of, row_of, tasks_of, world_of};
 ghost use Rattle.execution.specs.Settling.{RunsThere};
@@ -24,6 +25,7 @@ ghost use Rattle.image.specs.Starting.{handler_state, role_within};
 ghost use Rattle.processor.specs.Layout.{role_of};
 
 use crate::contents::{Contents, copied_words, save_rows};
+use crate::frame_use::FrameUse;
 use crate::parameters::Parameters;
 use crate::rooms::Rooms;
 use clock::{Delays, Schedule};
@@ -243,18 +245,40 @@ impl<'a, 's, R: Ready, D: Delays> State<'a, 's, R, D> {
         &self.memory
     }
 
-    /// The address of the running frame's instruction, of the task that runs.
-    pub(crate) fn address(&self, task: u8) -> u16
+    // The task that runs.
+    fn task(&self, task: u8) -> &TaskState
         requires whole { IsWhole self.now.image (world_of self.now) }
         requires runs { IsRunner (kernel_of self.now.tasking) task }
-        ensures { result ≡ (tasks_of self.now task).frame.place }
+        ensures { result.now.task ≡ tasks_of self.now task }
     {
         let _handler = self.tasking.handler();
         let row = self.row(task);
         let Some(state) = self.tasks.get(row) else {
             unreachable!()
         };
-        state.place()
+        state
+    }
+
+    /// The address of the running frame's instruction, of the task that runs.
+    pub(crate) fn address(&self, task: u8) -> u16
+        requires whole { IsWhole self.now.image (world_of self.now) }
+        requires runs { IsRunner (kernel_of self.now.tasking) task }
+        ensures { result ≡ (tasks_of self.now task).frame.place }
+    {
+        self.task(task).place()
+    }
+
+    /// What the task that runs has of frames.
+    pub(crate) fn frames(&self, task: u8) -> FrameUse
+        requires whole { IsWhole self.now.image (world_of self.now) }
+        requires runs { IsRunner (kernel_of self.now.tasking) task }
+        ensures { result ≡ frame_use (tasks_of self.now task) }
+    {
+        let state = self.task(task);
+        FrameUse {
+            below: state.callers(),
+            words: state.words(),
+        }
     }
 }
 

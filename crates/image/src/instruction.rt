@@ -12,7 +12,7 @@ pub enum Region {
 }
 
 /// What an instruction does. Addresses are numbers of instructions, words, subprograms, labels or objects, from 0.
-#[derive(Clone, Copy, PartialEq, Eq, Debug)]
+#[derive(Clone, Copy)]
 pub enum Operation {
     /// 01 PUSH: gives the number.
     Push(i64),
@@ -121,7 +121,7 @@ pub enum Operation {
 }
 
 /// One instruction: what it does, and how many words are on the frame's operand stack before it.
-#[derive(Clone, Copy, PartialEq, Eq, Debug)]
+#[derive(Clone, Copy)]
 pub struct Instr {
     /// The words on the operand stack before it.
     pub depth: u16,

@@ -4,3 +4,4 @@ mod Inside
 mod Pieces
 pub mod Runs
 mod Stepping
+pub mod Taken

@@ -3,5 +3,6 @@ pub mod Exclusion
 pub mod Memory
 pub mod Outcomes
 pub mod Stands
+pub mod Taken
 pub mod TaskStates
 pub mod Written

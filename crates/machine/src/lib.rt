@@ -12,7 +12,7 @@ mod writer_sink;
 mod writing;
 
 pub use bound::{Bound, Cut, bound_of};
-pub use execution::{Asking, Cause, Raising};
+pub use execution::{Asking, Cause, FrameUse, Raising};
 pub use fault::RunFault;
 pub use memory_sink::{MemorySink, Plan};
 pub use processor::Steps;

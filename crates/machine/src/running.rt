@@ -8,7 +8,7 @@ ghost use Rattle.kernel.specs.Text.{line_text as text_line, lines_text};
 ghost use Rattle.image.specs.Code.{code, code_text};
 ghost use Rattle.image.specs.Steps.{is_open};
 ghost use Rattle.image.specs.Texts.{names_of};
-ghost use Rattle.execution.specs.Ahead.{next_address, next_asking, next_raising};
+ghost use Rattle.execution.specs.Ahead.{next_address, next_asking, next_frames, next_raising};
 ghost use Rattle.execution.specs.Held.{line_of, world_of, world_with};
 ghost use Rattle.machine.specs.Bounds.{IsTimeBound, bounded_text};
 ghost use Rattle.machine.specs.Exclusion.{Excludes, observed};
@@ -28,7 +28,7 @@ use arrayvec::ArrayVec;
 use base::limits::{CEILING, TASKS};
 use clock::{Delays, ListDelays, Schedule};
 use dispatch::{Ready, RingReady};
-use execution::{Asking, Execution, Line, Raising};
+use execution::{Asking, Execution, FrameUse, Line, Raising};
 use image::Image;
 use image_laws::{code_leads_on, lines_grow_on, outcome_stays, steps_whole};
 use kernel::laws::{four_statements_hold, inside_lists, left_unmoved};
@@ -319,6 +319,13 @@ impl<'a, R: Ready, D: Delays> Machine<'a, R, D> {
         ensures { result ≡ next_address (world_of self.now) }
     {
         self.execution.address_ahead()
+    }
+
+    /// What the task or handler that takes the next step has of frames, unless there is an outcome; nothing changes.
+    pub fn frames_ahead(&self) -> Option<FrameUse>
+        ensures { result ≡ next_frames (world_of self.now) }
+    {
+        self.execution.frames_ahead()
     }
 
     // The text of a line.

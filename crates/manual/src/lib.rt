@@ -30,8 +30,8 @@ COMMANDS
         writes the run as a picture that any browser opens, over virtual time and over steps
     adarun measure [--tsv] SRC SCHED LIMIT [--until TIME]
         writes what is measured of the run: jobs and steps of each task, preemptions, blocking,
-        waits in queues, lateness, calls of each object and by whom; as tables, or with tabs
-        between fields
+        waits in queues, lateness, frames and words, calls of each object and by whom;
+        as tables, or with tabs between fields
     adarun compile SRC IMG
         compiles a source to the file of an image
     adarun list IMG

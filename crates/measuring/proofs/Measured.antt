@@ -7,7 +7,9 @@ use Rattle.image.specs.Code.{CodeWorld, code}
 use Rattle.image.specs.Sections.{Sections}
 use Rattle.image_laws.specs.Laws.{OutcomeStays}
 use Rattle.tasking.specs.Held.{kernel_of}
+use Rattle.execution.specs.Ahead.{next_frames}
 use Rattle.execution.specs.Held.{HeldWorld, world_of, world_with}
+use Rattle.execution.specs.declared.frame_use.FrameUse.{FrameUse}
 use Rattle.machine.specs.Stands.{EndsBy, HoldsWorld, ShowsText}
 use Rattle.machine.specs.declared.reports.Event.{Event}
 use Rattle.machine.specs.declared.reports.Outcome.{Outcome}
@@ -27,9 +29,9 @@ abbrev beside : List Line → Kernel → Kernel
 beside lines k = record k { lines = lines }
 
 -- what a step makes of what has happened doesn't depend on lines
-happened_beside : (tasks : ℕ) (times : CallTimes) (a : Ahead) (k l : Kernel) (n : ℕ) (now : Stories) (xs ys : List Line) (r : Option ℕ) → happened_by_step tasks times a (beside xs k) (beside ys l) n None r now ≡ happened_by_step tasks times a k l n None r now
-happened_beside tasks times a k l n now xs ys None = refl
-happened_beside tasks times a k l n now xs ys (Some t) = refl
+happened_beside : (tasks : ℕ) (times : CallTimes) (a : Ahead) (u : Option FrameUse) (k l : Kernel) (n : ℕ) (now : Stories) (xs ys : List Line) (r : Option ℕ) → happened_by_step tasks times a u (beside xs k) (beside ys l) n None r now ≡ happened_by_step tasks times a u k l n None r now
+happened_beside tasks times a u k l n now xs ys None = refl
+happened_beside tasks times a u k l n now xs ys (Some t) = refl
 
 called_beside : (times : CallTimes) (a : Ahead) (k l : Kernel) (now : ObjectCalls) (xs ys : List Line) (r : Option ℕ) → called_by_step times a (beside xs k) (beside ys l) None r now ≡ called_by_step times a k l None r now
 called_beside times a k l now xs ys None = refl
@@ -71,7 +73,7 @@ stepped i schedule n h next shown image same steps =
     (subst (λ j. HoldsWorld h (code j h.schedule n) → HoldsWorld next (code j h.schedule (n + 1))) image (λ holds. (steps n holds).0)))
 
 module _ (i : Sections) (schedule : List ScheduleLine) (n : ℕ) (g h : HeldWorld) (times : CallTimes) (m : Measures) (r : Measured i schedule n g h times m) where
-  module _ (a : Ahead) (ahead : (lines : List Line) → a ≡ next_ahead g.image g.schedule (world_with lines g)) (next : HeldWorld) (shown : Event) (steps : StepsBy h next shown) (going : (kernel_of h.tasking).outcome ≡ None) where
+  module _ (a : Ahead) (ahead : (lines : List Line) → a ≡ next_ahead g.image g.schedule (world_with lines g)) (u : Option FrameUse) (frames : u ≡ next_frames (world_of g)) (next : HeldWorld) (shown : Event) (steps : StepsBy h next shown) (going : (kernel_of h.tasking).outcome ≡ None) where
     -- what depends on the step, but not on lines, is the same of the world's kernels and of those that are held
     held_same : {Y : Type 0} (F : CallTimes → Ahead → Kernel → Kernel → Option kernel.Outcome → Option ℕ → Y)
         → ((xs ys : List Line) (t : Option ℕ) → F times a (beside xs (kernel_of g.tasking)) (beside ys (kernel_of next.tasking)) None t ≡ F times a (kernel_of g.tasking) (kernel_of next.tasking) None t)
@@ -99,19 +101,23 @@ module _ (i : Sections) (schedule : List ScheduleLine) (n : ℕ) (g h : HeldWorl
 
     -- what the step has added is measured
     next_measured : (new : Measures) → let k = kernel_of g.tasking in let l = kernel_of next.tasking in
-        AreMeasured new (happened_by_step (length i.tasks) times a k l (suc n) None k.running (stories i schedule n)) (called_by_step times a k l None k.running (calls i schedule n)) (used_by_step times a k l None k.running (usages i schedule n)) (counted_by_step k l None k.running (instants i schedule n))
+        AreMeasured new (happened_by_step (length i.tasks) times a u k l (suc n) None k.running (stories i schedule n)) (called_by_step times a k l None k.running (calls i schedule n)) (used_by_step times a k l None k.running (usages i schedule n)) (counted_by_step k l None k.running (instants i schedule n))
         → IsMeasured i schedule (suc n) new
     next_measured new are =
         let k = kernel_of g.tasking in
         let l = kernel_of next.tasking in
-        let happened_same = held_same (λ c b x y o t. happened_by_step (length i.tasks) c b x y (suc n) o t (stories i schedule n)) (happened_beside (length i.tasks) times a k l (suc n) (stories i schedule n)) in
+        let w = code i schedule n in
+        let used : next_frames w ≡ u = ap next_frames r.stands_before ∙ sym frames in
+        let happened_same =
+        ap (λ v. happened_by_step (length i.tasks) (call_times i schedule n) (next_ahead i schedule w) v w.kernel (code i schedule (suc n)).kernel (suc n) w.kernel.outcome w.kernel.running (stories i schedule n)) used
+        ∙ held_same (λ c b x y o t. happened_by_step (length i.tasks) c b u x y (suc n) o t (stories i schedule n)) (happened_beside (length i.tasks) times a u k l (suc n) (stories i schedule n)) in
         let called_same = held_same (λ c b x y o t. called_by_step c b x y o t (calls i schedule n)) (called_beside times a k l (calls i schedule n)) in
         let counted_same = held_same (λ c b x y o t. counted_by_step x y o t (instants i schedule n)) (counted_beside k l (instants i schedule n)) in
         let used_same = held_same (λ c b x y o t. used_by_step c b x y o t (usages i schedule n)) (used_beside times a k l (usages i schedule n)) in
         subst (λ (now : Stories). AreMeasured new now (calls i schedule (suc n)) (usages i schedule (suc n)) (instants i schedule (suc n))) (sym happened_same)
-        (subst (λ (now : ObjectCalls). AreMeasured new (happened_by_step (length i.tasks) times a k l (suc n) None k.running (stories i schedule n)) now (usages i schedule (suc n)) (instants i schedule (suc n))) (sym called_same)
-        (subst (λ (now : Usages). AreMeasured new (happened_by_step (length i.tasks) times a k l (suc n) None k.running (stories i schedule n)) (called_by_step times a k l None k.running (calls i schedule n)) now (instants i schedule (suc n))) (sym used_same)
-        (subst (λ (now : Instants). AreMeasured new (happened_by_step (length i.tasks) times a k l (suc n) None k.running (stories i schedule n)) (called_by_step times a k l None k.running (calls i schedule n)) (used_by_step times a k l None k.running (usages i schedule n)) now) (sym counted_same) are)))
+        (subst (λ (now : ObjectCalls). AreMeasured new (happened_by_step (length i.tasks) times a u k l (suc n) None k.running (stories i schedule n)) now (usages i schedule (suc n)) (instants i schedule (suc n))) (sym called_same)
+        (subst (λ (now : Usages). AreMeasured new (happened_by_step (length i.tasks) times a u k l (suc n) None k.running (stories i schedule n)) (called_by_step times a k l None k.running (calls i schedule n)) now (instants i schedule (suc n))) (sym used_same)
+        (subst (λ (now : Instants). AreMeasured new (happened_by_step (length i.tasks) times a u k l (suc n) None k.running (stories i schedule n)) (called_by_step times a k l None k.running (calls i schedule n)) (used_by_step times a k l None k.running (usages i schedule n)) now) (sym counted_same) are)))
 
     -- the calls after the step
     next_calls : (later : CallTimes) → later ≡ with_call times (kernel_of g.tasking).now (kernel_of g.tasking).running (kernel_of next.tasking).place → later ≡ call_times i schedule (suc n)
@@ -125,15 +131,15 @@ module _ (i : Sections) (schedule : List ScheduleLine) (n : ℕ) (g h : HeldWorl
     pub measured_on : (follow : HeldWorld) (said : Event) → StepsBy g follow said → follow.image ≡ g.image → next.image ≡ h.image → follow.schedule ≡ g.schedule → next.schedule ≡ h.schedule →
         (later : CallTimes) → later ≡ with_call times (kernel_of g.tasking).now (kernel_of g.tasking).running (kernel_of next.tasking).place → (new : Measures) →
         (let k = kernel_of g.tasking in let l = kernel_of next.tasking in
-        AreMeasured new (happened_by_step (length next.image.tasks) times a k l (n + 1) None k.running (stories i schedule n)) (called_by_step times a k l None k.running (calls i schedule n)) (used_by_step times a k l None k.running (usages i schedule n)) (counted_by_step k l None k.running (instants i schedule n))) →
+        AreMeasured new (happened_by_step (length next.image.tasks) times a u k l (n + 1) None k.running (stories i schedule n)) (called_by_step times a k l None k.running (calls i schedule n)) (used_by_step times a k l None k.running (usages i schedule n)) (counted_by_step k l None k.running (instants i schedule n))) →
         Measured i schedule (n + 1) follow next later new
     measured_on follow said follows image_g image_h schedule_g schedule_h later noted new are =
         let k = kernel_of g.tasking in
         let l = kernel_of next.tasking in
         let at : n + 1 ≡ suc n = omega arith in
         let tasks : length next.image.tasks ≡ length i.tasks = ap (λ (x : Sections). length x.tasks) (image_h ∙ r.image) in
-        let is = subst (λ p. AreMeasured new (happened_by_step p times a k l (suc n) None k.running (stories i schedule n)) (called_by_step times a k l None k.running (calls i schedule n)) (used_by_step times a k l None k.running (usages i schedule n)) (counted_by_step k l None k.running (instants i schedule n))) tasks
-        (subst (λ x. AreMeasured new (happened_by_step (length next.image.tasks) times a k l x None k.running (stories i schedule n)) (called_by_step times a k l None k.running (calls i schedule n)) (used_by_step times a k l None k.running (usages i schedule n)) (counted_by_step k l None k.running (instants i schedule n))) at are) in
+        let is = subst (λ p. AreMeasured new (happened_by_step p times a u k l (suc n) None k.running (stories i schedule n)) (called_by_step times a k l None k.running (calls i schedule n)) (used_by_step times a k l None k.running (usages i schedule n)) (counted_by_step k l None k.running (instants i schedule n))) tasks
+        (subst (λ x. AreMeasured new (happened_by_step (length next.image.tasks) times a u k l x None k.running (stories i schedule n)) (called_by_step times a k l None k.running (calls i schedule n)) (used_by_step times a k l None k.running (usages i schedule n)) (counted_by_step k l None k.running (instants i schedule n))) at are) in
         subst (λ x. Measured i schedule x follow next later new) (sym at)
         (record {
           image_before = image_g ∙ r.image_before;
@@ -173,7 +179,7 @@ module _ (stays : OutcomeStays) (i : Sections) (schedule : List ScheduleLine) (n
       let w = code i schedule (n + j) in
       let l = (code i schedule (suc (n + j))).kernel in
       ap (stories i schedule) e
-      ∙ (ap (λ x. happened_by_step (length i.tasks) (call_times i schedule (n + j)) (next_ahead i schedule w) w.kernel l (suc (n + j)) x w.kernel.running (stories i schedule (n + j))) (still j) ∙ stories_stay j)
+      ∙ (ap (λ x. happened_by_step (length i.tasks) (call_times i schedule (n + j)) (next_ahead i schedule w) (next_frames w) w.kernel l (suc (n + j)) x w.kernel.running (stories i schedule (n + j))) (still j) ∙ stories_stay j)
 
   calls_stay : (j : ℕ) → calls i schedule (n + j) ≡ calls i schedule n
   calls_stay zero = let e : n + zero ≡ n = omega arith in ap (calls i schedule) e

@@ -16,6 +16,7 @@ table_added old now later head rows headed added = added ∙ ap (λ v. v ++ rows
 pub row_added : (old later row it : List ℕ) → later ≡ old ++ row → row ≡ it → later ≡ old ++ it
 row_added old later row it added is = added ∙ ap (λ v. old ++ v) is
 
-pub five_tables : (t0 t1 t2 t3 t4 t5 a b c d e : List ℕ) → t0 ≡ [] → t1 ≡ t0 ++ a → t2 ≡ t1 ++ b → t3 ≡ t2 ++ c → t4 ≡ t3 ++ d → t5 ≡ t4 ++ e → t5 ≡ (((a ++ b) ++ c) ++ d) ++ e
-five_tables t0 t1 t2 t3 t4 t5 a b c d e none first second third fourth fifth =
-    fifth ∙ ap (λ v. v ++ e) (fourth ∙ ap (λ v. v ++ d) (third ∙ ap (λ v. v ++ c) (second ∙ ap (λ v. v ++ b) (first ∙ ap (λ v. v ++ a) none))))
+pub six_tables : (t0 t1 t2 t3 t4 t5 t6 a b c d e f : List ℕ) → t0 ≡ [] → t1 ≡ t0 ++ a → t2 ≡ t1 ++ b → t3 ≡ t2 ++ c → t4 ≡ t3 ++ d → t5 ≡ t4 ++ e → t6 ≡ t5 ++ f
+    → t6 ≡ ((((a ++ b) ++ c) ++ d) ++ e) ++ f
+six_tables t0 t1 t2 t3 t4 t5 t6 a b c d e f none first second third fourth fifth sixth =
+    sixth ∙ ap (λ v. v ++ f) (fifth ∙ ap (λ v. v ++ e) (fourth ∙ ap (λ v. v ++ d) (third ∙ ap (λ v. v ++ c) (second ∙ ap (λ v. v ++ b) (first ∙ ap (λ v. v ++ a) none)))))

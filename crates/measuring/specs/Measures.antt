@@ -1,5 +1,5 @@
 -- What is measured of what has happened to a task, of the calls of an object, of the use that a task makes of an object, and of the instants of a run.
-use Rattle.std.specs.Prelude.{ℕ, zero, suc, ◌+◌, ◌-◌, ◌^◌, List, [], ◌∷◌, ℤ, pos, ◌-ℤ◌, Bool, true, false, Option, Some, None, max, min, nat_le, nat_lt, unsigned_abs, ◌&&◌, if◌then◌else◌}
+use Rattle.std.specs.Prelude.{ℕ, zero, suc, ◌+◌, ◌-◌, ◌^◌, List, [], ◌∷◌, ℤ, pos, ◌-ℤ◌, Bool, true, false, Option, Some, None, max, min, nat_le, nat_lt, option_map, unsigned_abs, ◌&&◌, if◌then◌else◌}
 use Rattle.kernel.specs.State.{Partition}
 use Rattle.measuring.specs.declared.actor.ActorMeasures.{ActorMeasures}
 use Rattle.measuring.specs.declared.happening.Happening.{Happening}
@@ -49,14 +49,14 @@ is_release (Released time step) = true
 is_release happening = false
 
 abbrev pub is_step : Happening → Bool
-is_step (Steps step) = true
+is_step (Steps step frames) = true
 is_step happening = false
 
 -- the steps of the last job
 abbrev pub last_job : List Happening → ℕ
 last_job [] = 0
 last_job (Released time step ∷ earlier) = 0
-last_job (Steps step ∷ earlier) = plus (last_job earlier) 1
+last_job (Steps step frames ∷ earlier) = plus (last_job earlier) 1
 last_job (Rests ∷ earlier) = last_job earlier
 last_job (Preempted ∷ earlier) = last_job earlier
 last_job (HasWaited time ∷ earlier) = last_job earlier
@@ -65,7 +65,7 @@ last_job (Late by ∷ earlier) = last_job earlier
 -- the most steps of a job
 abbrev pub longest_job : List Happening → ℕ
 longest_job [] = 0
-longest_job (Steps step ∷ earlier) = max (longest_job earlier) (last_job (Steps step ∷ earlier))
+longest_job (Steps step frames ∷ earlier) = max (longest_job earlier) (last_job (Steps step frames ∷ earlier))
 longest_job (Released time step ∷ earlier) = longest_job earlier
 longest_job (Rests ∷ earlier) = longest_job earlier
 longest_job (Preempted ∷ earlier) = longest_job earlier
@@ -80,7 +80,7 @@ lesser (Some m) n = min m n
 abbrev pub shortest_job : List Happening → Option ℕ
 shortest_job [] = None
 shortest_job (Rests ∷ earlier) = Some (lesser (shortest_job earlier) (last_job earlier))
-shortest_job (Steps step ∷ earlier) = shortest_job earlier
+shortest_job (Steps step frames ∷ earlier) = shortest_job earlier
 shortest_job (Released time step ∷ earlier) = shortest_job earlier
 shortest_job (Preempted ∷ earlier) = shortest_job earlier
 shortest_job (HasWaited time ∷ earlier) = shortest_job earlier
@@ -90,7 +90,7 @@ shortest_job (Late by ∷ earlier) = shortest_job earlier
 abbrev pub steps_before : List Happening → ℕ
 steps_before [] = 0
 steps_before (Released time step ∷ earlier) = step
-steps_before (Steps step ∷ earlier) = steps_before earlier
+steps_before (Steps step frames ∷ earlier) = steps_before earlier
 steps_before (Rests ∷ earlier) = steps_before earlier
 steps_before (Preempted ∷ earlier) = steps_before earlier
 steps_before (HasWaited time ∷ earlier) = steps_before earlier
@@ -99,7 +99,7 @@ steps_before (Late by ∷ earlier) = steps_before earlier
 -- the most steps of the run, by whatever task, from the beginning of a job up to its last step, and with that one
 abbrev pub response : List Happening → ℕ
 response [] = 0
-response (Steps step ∷ earlier) = max (response earlier) (step - steps_before earlier)
+response (Steps step frames ∷ earlier) = max (response earlier) (step - steps_before earlier)
 response (Released time step ∷ earlier) = response earlier
 response (Rests ∷ earlier) = response earlier
 response (Preempted ∷ earlier) = response earlier
@@ -112,7 +112,7 @@ response (Late by ∷ earlier) = response earlier
 abbrev pub last_release : List Happening → Option ℤ
 last_release [] = None
 last_release (Released time step ∷ earlier) = Some time
-last_release (Steps step ∷ earlier) = last_release earlier
+last_release (Steps step frames ∷ earlier) = last_release earlier
 last_release (Rests ∷ earlier) = last_release earlier
 last_release (Preempted ∷ earlier) = last_release earlier
 last_release (HasWaited time ∷ earlier) = last_release earlier
@@ -126,11 +126,21 @@ nearer (Some last) time least = Some (lesser least (unsigned_abs (time -ℤ last
 abbrev pub least_apart : List Happening → Option ℕ
 least_apart [] = None
 least_apart (Released time step ∷ earlier) = nearer (last_release earlier) time (least_apart earlier)
-least_apart (Steps step ∷ earlier) = least_apart earlier
+least_apart (Steps step frames ∷ earlier) = least_apart earlier
 least_apart (Rests ∷ earlier) = least_apart earlier
 least_apart (Preempted ∷ earlier) = least_apart earlier
 least_apart (HasWaited time ∷ earlier) = least_apart earlier
 least_apart (Late by ∷ earlier) = least_apart earlier
+
+-- Frames: what a task has of them before a step of it
+
+abbrev pub below_of : Happening → Option ℕ
+below_of (Steps step frames) = option_map (λ u. u.below) frames
+below_of happening = None
+
+abbrev pub words_of : Happening → Option ℕ
+words_of (Steps step frames) = option_map (λ u. u.words) frames
+words_of happening = None
 
 -- Preemption, queues and lateness
 
@@ -164,6 +174,8 @@ measures story = record {
   longest_job = longest_job story;
   steps_before = steps_before story;
   response = response story;
+  deepest = greatest below_of story;
+  widest = greatest words_of story;
   preempted = count is_preemption story;
   waits = count is_wait story;
   longest_wait = greatest wait_of story;

@@ -4,6 +4,8 @@ use Rattle.base.specs.declared.schedule.ScheduleLine.{ScheduleLine}
 use Rattle.kernel.specs.State.{Kernel, Outcome}
 use Rattle.image.specs.Code.{code}
 use Rattle.image.specs.Sections.{Sections}
+use Rattle.execution.specs.Ahead.{next_frames}
+use Rattle.execution.specs.declared.frame_use.FrameUse.{FrameUse}
 use Rattle.tracing.specs.Calls.{CallTimes, call_times}
 use Rattle.tracing.specs.Changes.{is_later, next_ahead, since_clock, starts, until_clock}
 use Rattle.tracing.specs.declared.ahead.Ahead.{Ahead}
@@ -15,20 +17,20 @@ use Rattle.measuring.specs.declared.instants.Instants.{Instants}
 -- Throughout, step n leads from kernel k to kernel l, and its events are those of the trace (tracing/specs/Traces, rows_of_step): none where there was an
 -- outcome, and so nobody ran.
 
--- the task that runs takes the step, and then its events tell
-abbrev pub happened_by_step : (tasks : ℕ) → CallTimes → Ahead → Kernel → Kernel → ℕ → Option Outcome → Option ℕ → Stories → Stories
-happened_by_step tasks calls ahead k l n (Some o) running stories = stories
-happened_by_step tasks calls ahead k l n None None stories = stories
-happened_by_step tasks calls ahead k l n None (Some t) stories =
+-- the task that runs takes the step, before which it has this of frames, and then its events tell
+abbrev pub happened_by_step : (tasks : ℕ) → CallTimes → Ahead → Option FrameUse → Kernel → Kernel → ℕ → Option Outcome → Option ℕ → Stories → Stories
+happened_by_step tasks calls ahead frames k l n (Some o) running stories = stories
+happened_by_step tasks calls ahead frames k l n None None stories = stories
+happened_by_step tasks calls ahead frames k l n None (Some t) stories =
     with_events tasks l.now n (since_clock k l t)
-    (with_events tasks k.now n (until_clock calls ahead k l t) (with_notice (noticed t (happens.Steps n)) stories))
+    (with_events tasks k.now n (until_clock calls ahead k l t) (with_notice (noticed t (happens.Steps n frames)) stories))
 
 abbrev pub stories : Sections → List ScheduleLine → ℕ → Stories
 stories i schedule zero = let k = (code i schedule 0).kernel in with_events (length i.tasks) k.now 0 (starts k) nothing_happened
 stories i schedule (suc n) =
     let w = code i schedule n in
     let l = (code i schedule (suc n)).kernel in
-    happened_by_step (length i.tasks) (call_times i schedule n) (next_ahead i schedule w) w.kernel l (suc n) w.kernel.outcome w.kernel.running
+    happened_by_step (length i.tasks) (call_times i schedule n) (next_ahead i schedule w) (next_frames w) w.kernel l (suc n) w.kernel.outcome w.kernel.running
     (stories i schedule n)
 
 abbrev pub called_by_step : CallTimes → Ahead → Kernel → Kernel → Option Outcome → Option ℕ → ObjectCalls → ObjectCalls

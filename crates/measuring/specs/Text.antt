@@ -9,7 +9,7 @@ use Rattle.image.specs.Texts.{names_of}
 use Rattle.machine.specs.Bounds.{cut_line}
 use Rattle.machine.specs.declared.bound.Bound.{Bound}
 use Rattle.tracing.specs.Traces.{named_object}
-use Rattle.measuring.specs.Measures.{blocking, measures, object_measures, usage_measures}
+use Rattle.measuring.specs.Measures.{blocking, measures, object_measures, plus, usage_measures}
 use Rattle.measuring.specs.Runs.{calls, instants, stories, usages}
 use Rattle.measuring.specs.Stories.{ObjectCalls, Stories, Usages}
 use Rattle.measuring.specs.declared.actor.ActorMeasures.{ActorMeasures}
@@ -105,6 +105,24 @@ waits_heading = codes "\n   queued     worst     total      late     worst     a
 abbrev pub waits_text : Form → Sections → (ℕ → ActorMeasures) → List ℕ
 waits_text form i actor = heading form waits_heading ++ below (actors_of i) (shown_wait form i actor)
 
+-- Frames
+
+-- how many count to their limit: those of a task with the one that runs; the last one of a handler never runs
+abbrev pub frames_of : Sections → ℕ → ActorMeasures → ℕ
+frames_of i t m = if nat_lt t (length i.tasks) then plus m.deepest 1 else m.deepest
+
+abbrev pub frames_row : Form → (frames : ℕ) → (name : List ℕ) → ActorMeasures → List ℕ
+frames_row form frames name m = (kind form (codes "frames") ++ number form frames) ++ number form m.widest ++ (name ++ codes "\n")
+
+abbrev pub shown_frames : Form → Sections → (ℕ → ActorMeasures) → ℕ → List ℕ
+shown_frames form i actor t = shown i t (actor t) (frames_row form (frames_of i t (actor t)) ((names_of i).task t) (actor t))
+
+abbrev pub frames_heading : List ℕ
+frames_heading = codes "\n   frames     words task\n"
+
+abbrev pub frames_text : Form → Sections → (ℕ → ActorMeasures) → List ℕ
+frames_text form i actor = heading form frames_heading ++ below (actors_of i) (shown_frames form i actor)
+
 -- Objects
 
 abbrev pub object_row : Form → (ceiling : ℕ) → (name : List ℕ) → ObjectMeasures → List ℕ
@@ -156,6 +174,7 @@ abbrev pub run_text : Form → Sections → (names : List (List ℕ)) → Storie
 run_text form i names stories calls usages instants =
     work_text form i (λ t. measures (stories t)) (λ t o. usage_measures (usages t o))
     ++ waits_text form i (λ t. measures (stories t))
+    ++ frames_text form i (λ t. measures (stories t))
     ++ objects_text form i names (λ o. object_measures (calls o))
     ++ usages_text form i names (λ t o. usage_measures (usages t o))
     ++ instants_text form instants

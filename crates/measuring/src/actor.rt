@@ -3,6 +3,7 @@ ghost use Rattle.std.specs.Prelude.{◌≡◌, ◌∷◌, List};
 ghost use Rattle.measuring.specs.Measures.{lesser, measures, nearer};
 
 use crate::happening::Happening;
+use machine::FrameUse;
 
 /// What is measured of a task, or of the handler of an interrupt. Times are in microseconds; no number is greater than 2**64 - 1, and a greater one is
 /// written as that.
@@ -22,6 +23,10 @@ pub struct ActorMeasures {
     pub steps_before: u64,
     /// The most steps of the run from the beginning of a job to its last step.
     pub response: u64,
+    /// The most frames that it has had below the one that runs, before a step of it.
+    pub deepest: u64,
+    /// The most words that its frames have had together, before a step of it.
+    pub widest: u64,
     /// How often it has been preempted.
     pub preempted: u64,
     /// How many of its calls have waited in the queue of an entry, and are over.
@@ -72,10 +77,14 @@ impl ActorMeasures {
         self.last_release = Some(time);
     }
 
-    // With this step of the run.
-    fn take_step(&mut self, step: u64)
-        ensures { (story : List Happening) → self.old ≡ measures story → self.new ≡ measures (Happening.Steps step ∷ story) }
+    // With this step of the run, before which it has this of frames.
+    fn take_step(&mut self, step: u64, frames: Option<FrameUse>)
+        ensures { (story : List Happening) → self.old ≡ measures story → self.new ≡ measures (Happening.Steps step frames ∷ story) }
     {
+        if let Some(frames) = frames {
+            self.deepest = self.deepest.max(frames.below as u64);
+            self.widest = self.widest.max(frames.words as u64);
+        }
         self.steps = self.steps.saturating_add(1);
         self.last_job = self.last_job.saturating_add(1);
         self.longest_job = self.longest_job.max(self.last_job);
@@ -97,7 +106,7 @@ impl ActorMeasures {
     {
         match happening {
             Happening::Released { time, step } => self.release(time, step),
-            Happening::Steps { step } => self.take_step(step),
+            Happening::Steps { step, frames } => self.take_step(step, frames),
             Happening::Rests => self.shortest_job = Some(lesser(self.shortest_job, self.last_job)),
             Happening::Preempted => self.preempted = self.preempted.saturating_add(1),
             Happening::HasWaited { time } => self.have_waited(time),

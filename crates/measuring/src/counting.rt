@@ -17,7 +17,7 @@ use crate::usage::{Usage, UsageMeasures, UsageNotice, usage_of};
 use base::limits::OBJECTS;
 use clock::Delays;
 use dispatch::Ready;
-use machine::Machine;
+use machine::{FrameUse, Machine};
 use std::alloc::{AllocError, Global};
 use tracing::{ACTORS, Ahead, Event, Events, since_clock, starts, until_clock};
 
@@ -162,12 +162,13 @@ fn note_use<R: Ready, D: Delays>(
     note_usages(usages, until);
 }
 
-// With what a step of this task says of tasks, which has led to these events before the clock moves, if it does.
+// With what a step of this task says of tasks, before which it has this of frames, and which has led to these events before the clock moves, if it does.
 fn note_changes<R: Ready, D: Delays>(
     actors: &mut [ActorMeasures],
     before: &Machine<'_, R, D>,
     after: &Machine<'_, R, D>,
     ran: u8,
+    frames: Option<FrameUse>,
     step: u64,
     until: &[Event],
 )
@@ -175,11 +176,11 @@ fn note_changes<R: Ready, D: Delays>(
     ensures noted { (stories : Stories) → IsTable actors.old (λ t. measures (stories t)) →
         let k = kernel_of before.now.tasking in let l = kernel_of after.now.tasking in let tasks = length after.now.image.tasks in
         IsTable actors.new (λ t. measures (with_events tasks l.now step (since_clock k l ran)
-        (with_events tasks k.now step until.now (with_notice (noticed ran (Happening.Steps step)) stories)) t)) }
+        (with_events tasks k.now step until.now (with_notice (noticed ran (Happening.Steps step frames)) stories)) t)) }
     ensures room { length actors.new ≡ ACTORS }
 {
     let since = since_clock(before, after, ran);
-    let happening = Happening::Steps { step };
+    let happening = Happening::Steps { step, frames };
     let tasks = after.tasks();
     note(
         actors,
@@ -227,13 +228,15 @@ impl Measures {
         );
     }
 
-    /// With this step of a run, which leads from one machine to the other, where these are the times of calls before it and what is known of it ahead.
+    /// With this step of a run, which leads from one machine to the other, where these are the times of calls before it, what is known of it ahead, and the
+    /// frames of who takes it.
     pub(crate) fn note_step<R: Ready, D: Delays>(
         &mut self,
         before: &Machine<'_, R, D>,
         after: &Machine<'_, R, D>,
         calls: &[i64],
         ahead: Ahead,
+        frames: Option<FrameUse>,
         step: u64,
     )
         requires image { before.now.image ≡ after.now.image }
@@ -241,7 +244,7 @@ impl Measures {
         ensures whole { AreWhole self.new }
         ensures noted { (stories : Stories) (called : ObjectCalls) (used : Usages) (instants : Instants) → AreMeasured self.old stories called used instants →
             let k = kernel_of before.now.tasking in let l = kernel_of after.now.tasking in AreMeasured self.new
-            (happened_by_step (length after.now.image.tasks) calls.now ahead k l step None k.running stories)
+            (happened_by_step (length after.now.image.tasks) calls.now ahead frames k l step None k.running stories)
             (called_by_step calls.now ahead k l None k.running called)
             (used_by_step calls.now ahead k l None k.running used)
             (counted_by_step k l None k.running instants) }
@@ -250,7 +253,15 @@ impl Measures {
             return;
         };
         let until = until_clock(calls, before, after, ran, ahead);
-        note_changes(&mut self.actors, before, after, ran, step, until.as_slice());
+        note_changes(
+            &mut self.actors,
+            before,
+            after,
+            ran,
+            frames,
+            step,
+            until.as_slice(),
+        );
         note_calls(&mut self.objects, until.as_slice());
         note_use(&mut self.usages, before, ran, until.as_slice());
         let moves = before.now() < after.now();

@@ -2,15 +2,16 @@
 ghost use Rattle.std.specs.Prelude.{◌≡◌};
 ghost use Rattle.measuring.specs.Stories.{call_of, notice_of};
 
+use machine::FrameUse;
 use tracing::Event;
 
 /// What happens to a task, or to the handler of an interrupt.
-#[derive(Clone, Copy, PartialEq, Eq, Debug)]
+#[derive(Clone, Copy)]
 pub enum Happening {
     /// A job of it begins at this time, when so many steps of the run have been taken.
     Released { time: i64, step: u64 },
-    /// It takes this step of the run, counted from 1.
-    Steps { step: u64 },
+    /// It takes this step of the run, counted from 1, and has this of frames before it.
+    Steps { step: u64, frames: Option<FrameUse> },
     /// Its job is over: it waits for a time, its call is queued, or it has ended (RM 9.6, 9.5.3, 9.3).
     Rests,
     /// A task of a higher active priority runs in its place (RM D.2.3).
@@ -22,7 +23,7 @@ pub enum Happening {
 }
 
 /// What happens, and to which task or handler, by its number.
-#[derive(Clone, Copy, PartialEq, Eq, Debug)]
+#[derive(Clone, Copy)]
 pub struct Notice {
     pub task: u8,
     pub happening: Happening,

@@ -53,9 +53,10 @@ fn measure_on<R: Ready, D: Delays, L: Ledger>(
             return outcome;
         }
         let ahead = ahead_of(before);
+        let frames = before.frames_ahead();
         after.step(steps);
         step += 1;
-        measures.note_step(before, after, times, ahead, step);
+        measures.note_step(before, after, times, ahead, frames, step);
         note_call(times, before, after);
         before.step(steps);
     }

@@ -5,7 +5,7 @@ ghost use Rattle.arrayvec.specs.ArrayVec.{array_vec_len};
 ghost use Rattle.base.specs.declared.limits.TheConstants.{NAME_LIMIT};
 ghost use Rattle.tracing.specs.Traces.{named_object};
 ghost use Rattle.measuring.specs.Text as texts;
-ghost use Rattle.measuring.specs.Text.{blocking_in, cell, gap, instants_row, jobs_text, kind, least_text, shown_object, shown_usage, shown_wait, shown_work, spaces, times_text, usage_row, wait_row, work_row};
+ghost use Rattle.measuring.specs.Text.{blocking_in, cell, frames_row, gap, instants_row, jobs_text, kind, least_text, shown_frames, shown_object, shown_usage, shown_wait, shown_work, spaces, times_text, usage_row, wait_row, work_row};
 ghost use Rattle.measuring.specs.declared.row_text.TheConstants.{ROW_BYTES};
 
 use crate::actor::ActorMeasures;
@@ -193,6 +193,17 @@ fn wait_row(form: Form, name: &[u8], measures: &ActorMeasures) -> RowText
     row
 }
 
+// The row of the frames of a task or handler, of which so many count to their limit.
+fn frames_row(form: Form, frames: u64, name: &[u8], measures: &ActorMeasures) -> RowText
+    requires { length name.now ≤ NAME_LIMIT }
+    ensures { result.items ≡ frames_row form frames name.now measures.now }
+{
+    let mut row = begun(form, b"frames", frames);
+    put_number(&mut row, form, measures.widest);
+    put_name(&mut row, name);
+    row
+}
+
 /// The row of the work of a task, or of a handler, where that has run; there are so many tasks, and so much keeps this one waiting.
 pub(crate) fn shown_work(
     form: Form,
@@ -229,6 +240,28 @@ pub(crate) fn shown_wait(
         return ArrayVec::new();
     }
     wait_row(form, actor_name(image, actor).as_slice(), measures)
+}
+
+/// The row of the frames of a task, or of a handler, where that has run; there are so many tasks.
+pub(crate) fn shown_frames(
+    form: Form,
+    image: &Image,
+    tasks: u8,
+    actor: u8,
+    measures: &ActorMeasures,
+) -> RowText
+    requires { tasks ≡ length image.now.tasks }
+    ensures { (actors : ℕ → ActorMeasures) → measures.now ≡ actors actor → result.items ≡ shown_frames form image.now actors actor }
+{
+    if tasks <= actor && measures.jobs == 0 {
+        return ArrayVec::new();
+    }
+    let frames = if actor < tasks {
+        measures.deepest.saturating_add(1)
+    } else {
+        measures.deepest
+    };
+    frames_row(form, frames, actor_name(image, actor).as_slice(), measures)
 }
 
 // The name of an object, or its number where it has none.

@@ -5,14 +5,16 @@ ghost use Rattle.tracing.specs.declared.calls.TheConstants.{ACTORS};
 ghost use Rattle.measuring.specs.Stories.{ObjectCalls, Stories, Usages};
 ghost use Rattle.measuring.specs.Tables.{AreMeasured, AreWhole, IsGrid, IsTable};
 ghost use Rattle.measuring.specs.Text as texts;
-ghost use Rattle.measuring.specs.Text.{actors_of, below, run_text, shown_object, shown_usage, shown_wait, shown_work};
+ghost use Rattle.measuring.specs.Text.{actors_of, below, run_text, shown_frames, shown_object, shown_usage, shown_wait, shown_work};
 
 use crate::actor::ActorMeasures;
 use crate::blocking::{blocking, usage_at};
 use crate::counting::Measures;
 use crate::instants::Instants;
 use crate::object::ObjectMeasures;
-use crate::row_text::{instants_row, object_row, shown_usage, shown_wait, shown_work};
+use crate::row_text::{
+    instants_row, object_row, shown_frames, shown_usage, shown_wait, shown_work,
+};
 use crate::usage::UsageMeasures;
 use base::limits::CHANNELS;
 use image::{Image, Text};
@@ -33,6 +35,8 @@ const WORK_HEADING: &[u8] =
 
 const WAITS_HEADING: &[u8] =
     b"\n   queued     worst     total      late     worst     apart task\n";
+
+const FRAMES_HEADING: &[u8] = b"\n   frames     words task\n";
 
 const OBJECTS_HEADING: &[u8] = b"\n  ceiling     calls    queued object\n";
 
@@ -94,6 +98,27 @@ fn add_waits(
     for actor in 0..tasks + (CHANNELS + 1) {
         let measures = &actors[usize::from(actor)];
         text.extend_from_slice(shown_wait(form, image, tasks, actor, measures).as_slice())?;
+    }
+    Ok(())
+}
+
+// Appends the rows of the frames of tasks and handlers.
+fn add_frames(
+    text: &mut Vec<u8>,
+    form: Form,
+    image: &Image,
+    tasks: u8,
+    actors: &[ActorMeasures],
+) -> Result<(), AllocError>
+    requires tasks { tasks ≡ length image.now.tasks }
+    requires few { tasks ≤ TASKS }
+    requires room { length actors.now ≡ ACTORS }
+    ensures { (m : ℕ → ActorMeasures) → IsTable actors.now m → OnOk result
+        (text.new.items ≡ text.old.items ++ below (actors_of image.now) (shown_frames form image.now m)) }
+{
+    for actor in 0..tasks + (CHANNELS + 1) {
+        let measures = &actors[usize::from(actor)];
+        text.extend_from_slice(shown_frames(form, image, tasks, actor, measures).as_slice())?;
     }
     Ok(())
 }
@@ -195,6 +220,8 @@ pub(crate) fn text_of(
     add_work(&mut text, form, image, tasks, objects, actors, usages)?;
     add_heading(&mut text, form, WAITS_HEADING)?;
     add_waits(&mut text, form, image, tasks, actors)?;
+    add_heading(&mut text, form, FRAMES_HEADING)?;
+    add_frames(&mut text, form, image, tasks, actors)?;
     add_heading(&mut text, form, OBJECTS_HEADING)?;
     add_objects(&mut text, form, image, names, objects, &measures.objects)?;
     add_heading(&mut text, form, USAGES_HEADING)?;

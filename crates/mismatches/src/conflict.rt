@@ -10,7 +10,7 @@ use std::marker::Model;
 use types::Scope;
 
 /// What keeps an expression from being static (RM 4.9), by the place where it begins.
-#[derive(Clone, Copy, Debug, PartialEq, Eq)]
+#[derive(Clone, Copy)]
 pub enum Obstacle {
     /// A name of something else than a number, a truth value, or a scalar constant of the package.
     Name(u32),
@@ -18,7 +18,7 @@ pub enum Obstacle {
 }
 
 /// How an expression breaks a rule: by types that don't match (12), or where it must be static (14, 15).
-#[derive(Clone, Copy, Debug, PartialEq, Eq)]
+#[derive(Clone, Copy)]
 pub enum Conflict {
     /// An expression is expected to be the first, and is of the second.
     Unexpected(Wanted, Own),
@@ -54,7 +54,7 @@ impl Conflict {
 }
 
 /// A conflict at a place.
-#[derive(Clone, Copy, Debug, PartialEq, Eq)]
+#[derive(Clone, Copy)]
 pub struct Mismatch {
     pub place: u32,
     pub conflict: Conflict,

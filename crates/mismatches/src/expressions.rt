@@ -16,7 +16,7 @@ use expr_rules::{Own, Slot, Wanted, own_of};
 use types::{Scope, Standing, start_of};
 
 // The left operand of an operator: its type and its place.
-#[derive(Clone, Copy, Debug)]
+#[derive(Clone, Copy)]
 struct LeftOperand {
     own: Own,
     place: u32,

@@ -15,7 +15,7 @@ use std::marker::Model;
 use types::Scope;
 
 /// What is said of the conflict that breaks the rule of this number at this place; None where both types aren't known.
-#[derive(Clone, Copy, Debug, PartialEq, Eq)]
+#[derive(Clone, Copy)]
 pub struct PlacedRemark {
     pub number: u8,
     pub place: u32,

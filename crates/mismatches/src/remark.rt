@@ -10,7 +10,7 @@ use expr_rules::{Own, Wanted};
 use types::{Scope, Subtype, TypeForm};
 
 /// A type of the language (RM A.1, D.8).
-#[derive(Clone, Copy, Debug, PartialEq, Eq)]
+#[derive(Clone, Copy)]
 pub enum PredefinedType {
     Integer,
     Boolean,
@@ -19,7 +19,7 @@ pub enum PredefinedType {
 }
 
 /// The type of an expression, or the one that is expected of it.
-#[derive(Clone, Copy, Debug, PartialEq, Eq)]
+#[derive(Clone, Copy)]
 pub enum NamedType {
     /// The type whose name is declared at this place: a byte of the text, from 0 on.
     Declared(u32),
@@ -33,7 +33,7 @@ pub enum NamedType {
 }
 
 /// What is said of a conflict.
-#[derive(Clone, Copy, Debug, PartialEq, Eq)]
+#[derive(Clone, Copy)]
 pub enum Remark {
     /// The type that is expected, and the one that is found.
     Unexpected(NamedType, NamedType),

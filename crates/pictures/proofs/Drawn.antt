@@ -21,6 +21,7 @@ use Rattle.tracing.specs.Changes.{next_ahead, since_clock, starts, until_clock}
 use Rattle.tracing.specs.declared.ahead.Ahead.{Ahead}
 use Rattle.tracing.specs.Traces.{TraceRow, came, lines_come, rows, rows_of_step, shown, without_end, wrote}
 use Rattle.tracing.specs.declared.event.Event as change
+use Rattle.tracing.proofs.Rows.{rows_stay}
 use Rattle.pictures.specs.Drawn.{inputs_text, reported_text, start_text, step_text}
 use Rattle.pictures.specs.Text.{PictureNames, event_text, events_text, flag_text, input_text, picture_names, row_text, rows_text}
 use Rattle.pictures.specs.declared.frame.Frame.{Frame}
@@ -201,18 +202,6 @@ drawn_start f i objects schedule g h image_g image_h schedule_g schedule_h stand
       drawn = added ∙ ap (λ s. old ++ start_text f names s (kernel_of h.tasking)) is ∙ ap (λ v. old ++ v) (sym first);
     }
 
--- after an outcome there are no more rows
-rows_stay : OutcomeStays → (i : Sections) (schedule : List ScheduleLine) (n j : ℕ) (o : kernel.Outcome) → (code i schedule n).kernel.outcome ≡ Some o → rows i schedule (n + j) ≡ rows i schedule n
-rows_stay stays i schedule n zero o is = let e : n + zero ≡ n = omega arith in ap (rows i schedule) e
-rows_stay stays i schedule n (suc j) o is =
-    let e : n + suc j ≡ suc (n + j) = omega arith in
-    let w = code i schedule (n + j) in
-    let l = (code i schedule (suc (n + j))).kernel in
-    let over : w.kernel.outcome ≡ Some o = ap (λ (v : CodeWorld). v.kernel.outcome) (stays i schedule n j o is) ∙ is in
-    let none : rows_of_step schedule (call_times i schedule (n + j)) (next_ahead i schedule w) w.kernel l (suc (n + j)) w.kernel.outcome w.kernel.running ≡ [] =
-    ap (λ q. rows_of_step schedule (call_times i schedule (n + j)) (next_ahead i schedule w) w.kernel l (suc (n + j)) q w.kernel.running) over in
-    ap (rows i schedule) e ∙ ap (λ v. rows i schedule (n + j) ++ v) none ∙ append-nil (rows i schedule (n + j)) ∙ rows_stay stays i schedule n j o is
-
 -- what is drawn up to the outcome, or at the limit, is what is drawn at the limit
 pub record Over (f : Frame) (i : Sections) (objects : List (List ℕ)) (schedule : List ScheduleLine) (limit : ℕ) (o : Outcome) (old new : List ℕ) : Type 0 where
   pub drawn : new ≡ old ++ rows_text f (picture_names i objects) (rows i schedule limit)
@@ -229,7 +218,7 @@ drawn_over stays f i objects schedule n limit g h calls old new r le why o ends 
     (λ (e : n ≡ limit). (ap (code i schedule) (sym e), ap (rows i schedule) (sym e)))
     (λ (q : (e : kernel.Outcome) × ((kernel_of h.tasking).outcome ≡ Some e)). (
       subst (λ x. code i schedule x ≡ code i schedule n) at (stays i schedule n (limit - n) q.0 (over q.0 q.1)),
-      subst (λ x. rows i schedule x ≡ rows i schedule n) at (rows_stay stays i schedule n (limit - n) q.0 (over q.0 q.1)),
+      subst (λ x. rows i schedule x ≡ rows i schedule n) at (rows_stay i schedule stays n (limit - n) q.0 (over q.0 q.1)),
     ))
     why in
     record {

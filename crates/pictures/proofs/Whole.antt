@@ -9,11 +9,11 @@ use Rattle.machine.specs.Bounds.{cut_line}
 use Rattle.machine.specs.Outcomes.{ending_of, time_of}
 use Rattle.machine.specs.Stands.{EndsBy}
 use Rattle.machine.specs.Written.{AppendsBeginning}
+use Rattle.machine.specs.Taken.{steps_taken}
 use Rattle.machine.specs.declared.bound.Bound.{Bound}
 use Rattle.machine.specs.declared.reports.Outcome.{Outcome}
 use Rattle.machine.proofs.Runs.{appends_nothing, beginning_of_more, whole_beginning}
 use Rattle.tracing.specs.Traces.{rows}
-use Rattle.pictures.specs.Extents.{steps_taken}
 use Rattle.pictures.specs.Frames.{frame_of}
 use Rattle.pictures.specs.Front.{end_text, front_text}
 use Rattle.pictures.specs.Pictures.{frame, picture_text}

@@ -1,7 +1,6 @@
 pub mod Inks
 pub mod Shapes
 pub mod Frames
-pub mod Extents
 pub mod Text
 pub mod Front
 pub mod Pictures

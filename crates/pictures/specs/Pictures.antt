@@ -5,9 +5,9 @@ use Rattle.image.specs.Code.{code}
 use Rattle.image.specs.Sections.{Sections}
 use Rattle.image.specs.Texts.{names_of}
 use Rattle.machine.specs.Bounds.{cut_line}
+use Rattle.machine.specs.Taken.{steps_taken}
 use Rattle.machine.specs.declared.bound.Bound.{Bound}
 use Rattle.tracing.specs.Traces.{rows}
-use Rattle.pictures.specs.Extents.{steps_taken}
 use Rattle.pictures.specs.Frames.{frame_of}
 use Rattle.pictures.specs.Front.{end_text, front_text}
 use Rattle.pictures.specs.Text.{picture_names, rows_text}

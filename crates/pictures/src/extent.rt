@@ -2,7 +2,7 @@
 ghost use Rattle.std.specs.Prelude.{◌≡◌, ◌+◌, ◌≤◌, IfErr, IfOk, unsigned_abs};
 ghost use Rattle.image.specs.Code.{code};
 ghost use Rattle.machine.specs.Stands.{HoldsWorld};
-ghost use Rattle.pictures.specs.Extents.{steps_taken};
+ghost use Rattle.machine.specs.Taken.{steps_taken};
 ghost use Rattle.tasking.specs.Held.{kernel_of};
 
 use clock::{Delays, HeapDelays, Schedule};

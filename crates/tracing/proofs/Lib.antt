@@ -1,6 +1,6 @@
 mod CallTimes
 mod Examples
 mod Parts
-mod Rows
+pub mod Rows
 mod Traced
 mod Words

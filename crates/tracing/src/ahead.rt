@@ -9,7 +9,7 @@ use dispatch::Ready;
 use machine::{Asking, Machine, Raising};
 
 /// What is known of a step before it is taken.
-#[derive(Clone, Copy, PartialEq, Eq, Debug)]
+#[derive(Clone, Copy)]
 pub struct Ahead {
     /// The address of its instruction, unless there is an outcome.
     pub address: Option<u16>,

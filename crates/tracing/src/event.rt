@@ -4,7 +4,7 @@ use machine::Cause;
 
 /// What has changed of a task, or that the clock has moved. Tasks, objects and exceptions are their numbers; an address is that of the instruction of the step,
 /// where the event is something that a statement does.
-#[derive(Clone, Copy, PartialEq, Eq, Debug)]
+#[derive(Clone, Copy)]
 pub enum Event {
     /// It is ready at the start (RM 9.2).
     Ready {

@@ -5,7 +5,7 @@ ghost use Rattle.tracing.specs.Known.{Known};
 use image::Text;
 
 /// A place of a source: its line and its column, both from 1.
-#[derive(Clone, Copy, PartialEq, Eq, Debug)]
+#[derive(Clone, Copy)]
 pub struct Origin {
     pub line: usize,
     pub column: usize,

@@ -44,7 +44,7 @@ module _ (text vs ws : List ℕ) (s : ℕ) where
   pub new_over : length ws ≤ s → text ++ changes_text s (drop s vs) (drop s ws) ≡ text
   new_over over = ap (λ v. text ++ v) (ap (changes_text s (drop s vs)) (drop_of_length-le ws over) ∙ no_changes s (drop s vs)) ∙ append-nil text
 
--- nothing is told where no value has changed
+-- nothing is written where no value has changed
 
 pub step_without : (n : ℕ) (vs : List ℕ) → step_text n vs vs ≡ []
 step_without n vs = ap (λ b. if b then [] else tick_text n ++ changes_text 0 vs vs) ((bytes_eq-Decides vs vs).1 refl)

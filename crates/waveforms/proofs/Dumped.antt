@@ -1,4 +1,4 @@
--- A dump so far: where the machine stands, which values were told last, and what has been written.
+-- A dump so far: where the machine stands, which values were written last, and what has been written.
 use Rattle.std.proofs.Common.{◌≡◌, ◌⊎◌, ℕ, zero, suc, ◌+◌, ◌-◌, ◌≤◌, ⊎_elim, List, [], ◌++◌, Option, Some, None, refl, sym, ap, subst, ◌∙◌, arith, append_assoc, append-nil}
 use Rattle.std.specs.Io.KnownBytes.{Appends}
 use Rattle.base.specs.declared.schedule.ScheduleLine.{ScheduleLine}
@@ -9,12 +9,14 @@ use Rattle.image_laws.specs.Laws.{OutcomeStays}
 use Rattle.tasking.specs.Held.{kernel_of}
 use Rattle.execution.specs.Held.{HeldWorld, world_of}
 use Rattle.machine.specs.Stands.{EndsBy, HoldsWorld}
+use Rattle.machine.specs.Taken.{steps_taken}
 use Rattle.machine.specs.Written.{AppendsBeginning}
 use Rattle.machine.specs.declared.reports.Event.{Event}
 use Rattle.machine.specs.declared.reports.Outcome.{Outcome}
 use Rattle.machine.proofs.Runs.{appends_nothing, appends_two, beginning_after, beginning_of_more}
+use Rattle.machine.proofs.Taken.{one_taken, taken_stays}
 use Rattle.waveforms.specs.Signals.{values}
-use Rattle.waveforms.specs.Waves.{one_without, step_text, steps_taken, steps_text}
+use Rattle.waveforms.specs.Waves.{step_text, steps_text}
 use Rattle.waveforms.proofs.Changes.{step_without}
 use Rattle.waveforms.proofs.HeldValues.{values_held}
 use Rattle.waveforms.proofs.Standing.{StepsBy, ends_here, stands_on}
@@ -32,7 +34,7 @@ module _ (i : Sections) (schedule : List ScheduleLine) where
       let last = step_text (suc (n + j)) (values_at (n + j)) (values_at (suc (n + j))) in
       (r.0 ++ last, ap (steps_text i schedule) e ∙ ap (λ v. v ++ last) r.1 ∙ append_assoc (steps_text i schedule n) r.0 last)
 
-  -- after an outcome nothing changes, and no step is taken
+  -- after an outcome nothing changes
   module _ (stays : OutcomeStays) (n : ℕ) (o : KernelOutcome) (is : (code i schedule n).kernel.outcome ≡ Some o) where
     same_world : (j : ℕ) → code i schedule (n + j) ≡ code i schedule n
     same_world j = stays i schedule n j o is
@@ -48,57 +50,46 @@ module _ (i : Sections) (schedule : List ScheduleLine) where
         ∙ step_without (suc (n + j)) (values_at n) in
         ap (steps_text i schedule) e ∙ ap (λ v. steps_text i schedule (n + j) ++ v) last ∙ append-nil (steps_text i schedule (n + j)) ∙ steps_stay j
 
-    taken_stays : (j : ℕ) → steps_taken i schedule (n + j) ≡ steps_taken i schedule n
-    taken_stays zero = let e : n + zero ≡ n = omega arith in ap (steps_taken i schedule) e
-    taken_stays (suc j) =
-        let e : n + suc j ≡ suc (n + j) = omega arith in
-        let none : one_without (code i schedule (n + j)).kernel.outcome ≡ 0 = ap (λ (w : CodeWorld). one_without w.kernel.outcome) (same_world j) ∙ ap one_without is in
-        let r = taken_stays j in
-        let more : steps_taken i schedule (n + j) + one_without (code i schedule (n + j)).kernel.outcome ≡ steps_taken i schedule (n + j) = omega (arith, none) in
-        ap (steps_taken i schedule) e ∙ more ∙ r
-
 -- after n steps: the machine stands for the world, no world before it had an outcome, these values are the world's, and what its steps have changed is written
-pub record Dumped (i : Sections) (schedule : List ScheduleLine) (n : ℕ) (h : HeldWorld) (told : List ℕ) (old new : Option (List ℕ)) (before after : ℕ) : Type 0 where
+pub record Dumped (i : Sections) (schedule : List ScheduleLine) (n : ℕ) (h : HeldWorld) (dumped : List ℕ) (old new : Option (List ℕ)) (before after : ℕ) : Type 0 where
   pub image : h.image ≡ i
   pub schedule_is : h.schedule ≡ schedule
   pub stands : HoldsWorld h (code i schedule n)
-  pub values_are : told ≡ values (kernel_of h.tasking)
+  pub values_are : dumped ≡ values (kernel_of h.tasking)
   pub taken : steps_taken i schedule n ≡ n
   pub written : Appends old new (steps_text i schedule n)
   pub kept : after ≡ before
 
-pub dumped_nothing : (h : HeldWorld) (told : List ℕ) (old : Option (List ℕ)) (before : ℕ) → HoldsWorld h (code h.image h.schedule 0) → told ≡ values (kernel_of h.tasking) →
-    Dumped h.image h.schedule 0 h told old old before before
-dumped_nothing h told old before stands are =
+pub dumped_nothing : (h : HeldWorld) (dumped : List ℕ) (old : Option (List ℕ)) (before : ℕ) → HoldsWorld h (code h.image h.schedule 0) → dumped ≡ values (kernel_of h.tasking) →
+    Dumped h.image h.schedule 0 h dumped old old before before
+dumped_nothing h dumped old before stands are =
     record { image = refl; schedule_is = refl; stands = stands; values_are = are; taken = refl; written = appends_nothing old; kept = refl }
 
-module _ (i : Sections) (schedule : List ScheduleLine) (n : ℕ) (h : HeldWorld) (told : List ℕ) (old new : Option (List ℕ)) (before after : ℕ) (r : Dumped i schedule n h told old new before after) where
-  module _ (next : HeldWorld) (shown : Event) (steps : StepsBy h next shown) (going : (kernel_of h.tasking).outcome ≡ None) (later_told : List ℕ) (are : later_told ≡ values (kernel_of next.tasking)) (later : Option (List ℕ)) where
+module _ (i : Sections) (schedule : List ScheduleLine) (n : ℕ) (h : HeldWorld) (dumped : List ℕ) (old new : Option (List ℕ)) (before after : ℕ) (r : Dumped i schedule n h dumped old new before after) where
+  module _ (next : HeldWorld) (shown : Event) (steps : StepsBy h next shown) (going : (kernel_of h.tasking).outcome ≡ None) (later_dumped : List ℕ) (are : later_dumped ≡ values (kernel_of next.tasking)) (later : Option (List ℕ)) where
     abbrev text : ℕ → List ℕ
-    text m = step_text m told later_told
+    text m = step_text m dumped later_dumped
 
     stepped : HoldsWorld next (code i schedule (suc n))
     stepped = stands_on i schedule n h next shown r.image r.schedule_is r.stands steps
 
     steps_more : steps_text i schedule (suc n) ≡ steps_text i schedule n ++ text (suc n)
     steps_more =
-        let first : values (code i schedule n).kernel ≡ told = values_held h (code i schedule n) r.stands ∙ sym r.values_are in
-        let second : values (code i schedule (suc n)).kernel ≡ later_told = values_held next (code i schedule (suc n)) stepped ∙ sym are in
+        let first : values (code i schedule n).kernel ≡ dumped = values_held h (code i schedule n) r.stands ∙ sym r.values_are in
+        let second : values (code i schedule (suc n)).kernel ≡ later_dumped = values_held next (code i schedule (suc n)) stepped ∙ sym are in
         λ j. steps_text i schedule n ++ step_text (suc n) (first j) (second j)
 
-    pub dumped_on : next.image ≡ h.image → next.schedule ≡ h.schedule → (count : ℕ) → Appends new later (text (n + 1)) → count ≡ after → Dumped i schedule (n + 1) next later_told old later before count
+    pub dumped_on : next.image ≡ h.image → next.schedule ≡ h.schedule → (count : ℕ) → Appends new later (text (n + 1)) → count ≡ after → Dumped i schedule (n + 1) next later_dumped old later before count
     dumped_on same_image same_schedule count app same =
         let at : n + 1 ≡ suc n = omega arith in
-        let none : one_without (code i schedule n).kernel.outcome ≡ 1 = ap (λ (w : CodeWorld). one_without w.kernel.outcome) r.stands ∙ ap one_without going in
-        let so_far = r.taken in
-        let taken : steps_taken i schedule n + one_without (code i schedule n).kernel.outcome ≡ suc n = omega (arith, none, so_far) in
-        subst (λ m. Dumped i schedule m next later_told old later before count) (sym at)
+        let before_it : (code i schedule n).kernel.outcome ≡ None = ap (λ (w : CodeWorld). w.kernel.outcome) r.stands ∙ going in
+        subst (λ m. Dumped i schedule m next later_dumped old later before count) (sym at)
         (record {
           image = same_image ∙ r.image;
           schedule_is = same_schedule ∙ r.schedule_is;
           stands = stepped;
           values_are = are;
-          taken = taken;
+          taken = one_taken i schedule n before_it r.taken;
           written = subst (Appends old later) (sym steps_more) (appends_two old new later (steps_text i schedule n) (text (suc n)) r.written (subst (λ m. Appends new later (text m)) at app));
           kept = same ∙ r.kept;
         })
@@ -115,16 +106,16 @@ module _ (i : Sections) (schedule : List ScheduleLine) (n : ℕ) (h : HeldWorld)
         (beginning_of_more old later (steps_text i schedule n ++ text (suc n)) rest.0
         (beginning_after old new later (steps_text i schedule n) (text (suc n)) r.written (subst (λ m. AppendsBeginning new later (text m)) at begun)))
 
--- what is told up to the outcome, or at the limit, is what is told at the limit
+-- what is written up to the outcome, or at the limit, is what is written at the limit
 pub record Complete (i : Sections) (schedule : List ScheduleLine) (limit taken : ℕ) (o : Outcome) (old new : Option (List ℕ)) (before after : ℕ) : Type 0 where
   pub written : Appends old new (steps_text i schedule limit)
   pub ends : EndsBy o (code i schedule limit)
   pub taken_is : taken ≡ steps_taken i schedule limit
   pub kept : after ≡ before
 
-pub dumped_over : OutcomeStays → (i : Sections) (schedule : List ScheduleLine) (n limit : ℕ) (h : HeldWorld) (told : List ℕ) (old new : Option (List ℕ)) (before after : ℕ) → Dumped i schedule n h told old new before after →
+pub dumped_over : OutcomeStays → (i : Sections) (schedule : List ScheduleLine) (n limit : ℕ) (h : HeldWorld) (dumped : List ℕ) (old new : Option (List ℕ)) (before after : ℕ) → Dumped i schedule n h dumped old new before after →
     n ≤ limit → (n ≡ limit) ⊎ ((e : KernelOutcome) × ((kernel_of h.tasking).outcome ≡ Some e)) → (o : Outcome) → EndsBy o (world_of h) → Complete i schedule limit n o old new before after
-dumped_over stays i schedule n limit h told old new before after r le why o ends =
+dumped_over stays i schedule n limit h dumped old new before after r le why o ends =
     let at : n + (limit - n) ≡ limit = omega (arith, le) in
     let here : EndsBy o (code i schedule n) = ends_here i schedule n h r.stands o ends in
     let over : (e : KernelOutcome) → (kernel_of h.tasking).outcome ≡ Some e → (code i schedule n).kernel.outcome ≡ Some e = λ e is. ap (λ (w : CodeWorld). w.kernel.outcome) r.stands ∙ is in
@@ -135,7 +126,7 @@ dumped_over stays i schedule n limit h told old new before after r le why o ends
       subst (λ x. code i schedule x ≡ code i schedule n) at (stays i schedule n (limit - n) q.0 (over q.0 q.1)),
       (
         subst (λ x. steps_text i schedule x ≡ steps_text i schedule n) at (steps_stay i schedule stays n q.0 (over q.0 q.1) (limit - n)),
-        subst (λ x. steps_taken i schedule x ≡ steps_taken i schedule n) at (taken_stays i schedule stays n q.0 (over q.0 q.1) (limit - n)),
+        subst (λ x. steps_taken i schedule x ≡ steps_taken i schedule n) at (taken_stays i schedule n stays q.0 (over q.0 q.1) (limit - n)),
       ),
     ))
     why in

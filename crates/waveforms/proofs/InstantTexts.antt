@@ -10,19 +10,19 @@ use Rattle.image_laws.specs.Laws.{OutcomeStays}
 use Rattle.waveforms.specs.Instants.{before_clock, ended, ended_by}
 use Rattle.waveforms.specs.Signals.{values}
 use Rattle.waveforms.specs.TimeWaves.{instant_text, instants_text}
-use Rattle.waveforms.specs.Told.{told_after}
+use Rattle.waveforms.specs.LastValues.{dumped_after}
 
 -- instants, and then more of them
 
-pub told_more : (told : Option (List ℕ)) (ks more : List Kernel) → told_after told (ks ++ more) ≡ told_after (told_after told ks) more
-told_more told [] more = refl
-told_more told (k ∷ ks) more = told_more (Some (values k)) ks more
+pub dumped_more : (dumped : Option (List ℕ)) (ks more : List Kernel) → dumped_after dumped (ks ++ more) ≡ dumped_after (dumped_after dumped ks) more
+dumped_more dumped [] more = refl
+dumped_more dumped (k ∷ ks) more = dumped_more (Some (values k)) ks more
 
-pub text_more : (told : Option (List ℕ)) (ks more : List Kernel) → instants_text told (ks ++ more) ≡ instants_text told ks ++ instants_text (told_after told ks) more
-text_more told [] more = refl
-text_more told (k ∷ ks) more =
-    let first = instant_text (unsigned_abs k.now) told (values k) in
-    ap (λ v. first ++ v) (text_more (Some (values k)) ks more) ∙ sym (append_assoc first (instants_text (Some (values k)) ks) (instants_text (told_after (Some (values k)) ks) more))
+pub text_more : (dumped : Option (List ℕ)) (ks more : List Kernel) → instants_text dumped (ks ++ more) ≡ instants_text dumped ks ++ instants_text (dumped_after dumped ks) more
+text_more dumped [] more = refl
+text_more dumped (k ∷ ks) more =
+    let first = instant_text (unsigned_abs k.now) dumped (values k) in
+    ap (λ v. first ++ v) (text_more (Some (values k)) ks more) ∙ sym (append_assoc first (instants_text (Some (values k)) ks) (instants_text (dumped_after (Some (values k)) ks) more))
 
 -- a clock that stands still ends no instant
 

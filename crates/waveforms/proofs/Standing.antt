@@ -10,8 +10,8 @@ use Rattle.machine.specs.declared.reports.Outcome.{Outcome}
 
 -- a machine's step, as its contract has it
 abbrev pub StepsBy : HeldWorld → HeldWorld → Event → Type 0
-StepsBy h next told =
-    (m : ℕ) → HoldsWorld h (code h.image h.schedule m) → HoldsWorld next (code h.image h.schedule (m + 1)) × ShowsText h.image (code h.image h.schedule m).kernel (code h.image h.schedule (m + 1)).kernel told
+StepsBy h next dumped =
+    (m : ℕ) → HoldsWorld h (code h.image h.schedule m) → HoldsWorld next (code h.image h.schedule (m + 1)) × ShowsText h.image (code h.image h.schedule m).kernel (code h.image h.schedule (m + 1)).kernel dumped
 
 module _ (i : Sections) (schedule : List ScheduleLine) (n : ℕ) (h : HeldWorld) where
   pub stands_on : (next : HeldWorld) (shown : Event) → h.image ≡ i → h.schedule ≡ schedule → HoldsWorld h (code i schedule n) → StepsBy h next shown → HoldsWorld next (code i schedule (suc n))

@@ -51,7 +51,7 @@ inside_tasks (suc n) k o =
     (λ j. inside_tasks n k o j ++ one k.partition n (is_task k.partition n) o (k.actions n) refl j)
     ∙ sym (joined k.partition (inside_among n k o) (if is_object_open o (k.actions n) then n ∷ [] else []))
 
--- by the first number that is told of those inside
+-- by the first number that is reported of those inside
 
 none_some : (v : ℕ) → None ≡ Some v → ⊥
 none_some v is = cc

@@ -11,10 +11,11 @@ use Rattle.tasking.specs.Held.{kernel_of}
 use Rattle.execution.specs.Held.{HeldWorld}
 use Rattle.machine.specs.Stands.{EndsBy, HoldsWorld}
 use Rattle.machine.specs.Written.{AppendsBeginning}
+use Rattle.machine.specs.Taken.{steps_taken}
 use Rattle.machine.specs.declared.bound.Bound.{Bound}
 use Rattle.machine.specs.declared.reports.Outcome.{Outcome}
 use Rattle.waveforms.specs.Signals.{values}
-use Rattle.waveforms.specs.Waves.{declarations_text, ending_text, start_text, steps_taken, steps_text, waves_text}
+use Rattle.waveforms.specs.Waves.{declarations_text, ending_text, start_text, steps_text, waves_text}
 use Rattle.waveforms.specs.declared.axis.Axis.TheVariants as axes
 use Rattle.waveforms.proofs.HeldValues.{values_held}
 use Rattle.waveforms.proofs.Parts as parts
@@ -53,7 +54,7 @@ last_is i schedule bound h image schedule_is o line ends said =
     ∙ sym (λ j. cut_line bound.cut (names_of i) (ends.outcome j) (ends.time j))
     ∙ (λ j. let k = (code (image j) (schedule_is j) bound.steps).kernel in cut_line bound.cut (names_of i) k.outcome k.now)
 
--- what a machine has told of this image and schedule
+-- what a machine has written of this image and schedule
 module _ (i : Sections) (names : List (List ℕ)) (schedule : List ScheduleLine) (bound : Bound) (h : HeldWorld) (image : h.image ≡ i) (schedule_is : h.schedule ≡ schedule) where
   pub front_is : HoldsWorld h (code i schedule 0) → (text : List ℕ) → text ≡ declarations_text axes.Steps names i ++ start_text 0 (values (kernel_of h.tasking)) → text ≡ front i names schedule bound
   front_is stands text is = is ∙ ap (λ v. declarations_text axes.Steps names i ++ start_text 0 v) (sym (values_held h (code i schedule 0) stands))

@@ -2,4 +2,4 @@ pub mod Signals
 pub mod Waves
 pub mod Instants
 pub mod TimeWaves
-pub mod Told
+pub mod LastValues

@@ -1,4 +1,4 @@
--- The values of a run's signals: its time, and the states of its tasks and protected objects, told by the kernel.
+-- The values of a run's signals: its time, and the states of its tasks and protected objects, by the kernel.
 use Rattle.std.specs.Prelude.{ℕ, zero, suc, ◌+◌, List, [], ◌∷◌, ◌++◌, Option, Some, None, Bool, false, nat_eq, slice_get, if◌then◌else◌}
 use Rattle.std.specs.Int.{cast_unsigned, w64}
 use Rattle.kernel.specs.State.{Kernel, Outcome, Unhandled, TaskPlace, IsRunning, IsReady, IsAsleep, IsQueued, IsServed, IsFinished, active, inside, is_task}

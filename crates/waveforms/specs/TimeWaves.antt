@@ -19,8 +19,8 @@ instant_text time (Some old) new = tick_text time ++ changes_text 0 old new
 
 -- that of each of these instants, by the values at its end and at that of the one before it; times are not negative
 abbrev pub instants_text : Option (List ℕ) → List Kernel → List ℕ
-instants_text told [] = []
-instants_text told (k ∷ ks) = instant_text (unsigned_abs k.now) told (values k) ++ instants_text (Some (values k)) ks
+instants_text dumped [] = []
+instants_text dumped (k ∷ ks) = instant_text (unsigned_abs k.now) dumped (values k) ++ instants_text (Some (values k)) ks
 
 -- all that is written of a run within a bound, where protected objects have these names
 abbrev pub time_waves_text : Sections → List (List ℕ) → List ScheduleLine → Bound → List ℕ

@@ -3,11 +3,11 @@ use Rattle.std.specs.Prelude.{ℕ, zero, suc, ◌+◌, ◌*◌, ◌/◌, ◌%◌
 use Rattle.std.specs.Fmt.{digits}
 use Rattle.base.specs.Names.{is_name}
 use Rattle.base.specs.declared.schedule.ScheduleLine.{ScheduleLine}
-use Rattle.kernel.specs.State.{Outcome}
 use Rattle.image.specs.Code.{code}
 use Rattle.image.specs.Sections.{Sections}
 use Rattle.image.specs.Texts.{names_of}
 use Rattle.machine.specs.Bounds.{cut_line}
+use Rattle.machine.specs.Taken.{steps_taken}
 use Rattle.machine.specs.declared.bound.Bound.{Bound}
 use Rattle.waveforms.specs.Signals.{all_below, values}
 use Rattle.waveforms.specs.declared.axis.Axis.{Axis}
@@ -114,15 +114,6 @@ step_text n old new = if bytes_eq old new then [] else tick_text n ++ changes_te
 abbrev pub steps_text : Sections → List ScheduleLine → ℕ → List ℕ
 steps_text i schedule zero = []
 steps_text i schedule (suc n) = steps_text i schedule n ++ step_text (suc n) (values (code i schedule n).kernel) (values (code i schedule (suc n)).kernel)
-
-abbrev pub one_without : Option Outcome → ℕ
-one_without None = 1
-one_without (Some o) = 0
-
--- how many of n steps are taken: those of worlds without outcome
-abbrev pub steps_taken : Sections → List ScheduleLine → ℕ → ℕ
-steps_taken i schedule zero = 0
-steps_taken i schedule (suc n) = steps_taken i schedule n + one_without (code i schedule n).kernel.outcome
 
 -- the end of the last world's tick
 abbrev pub ending_text : ℕ → List ℕ → List ℕ

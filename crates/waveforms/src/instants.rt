@@ -7,7 +7,7 @@ ghost use Rattle.machine.specs.Written.{AppendsBeginning};
 ghost use Rattle.tasking.specs.Held.{kernel_of};
 ghost use Rattle.waveforms.specs.Instants.{ended, ended_by, instants};
 ghost use Rattle.waveforms.specs.TimeWaves.{instants_text, time_waves_text};
-ghost use Rattle.waveforms.specs.Told.{told_after};
+ghost use Rattle.waveforms.specs.LastValues.{dumped_after};
 
 use crate::axis::Axis;
 use crate::before_clock::values_before_clock;
@@ -27,17 +27,17 @@ use std::sync::ledger::Ledger;
 fn write_ended<R: Ready, D: Delays, S: Sink>(
     time: i64,
     machine: &Machine<'_, R, D>,
-    told: &mut Option<Values>,
+    dumped: &mut Option<Values>,
     sink: &mut S,
 ) -> Result<(), SinkError>
-    ensures told { OnOk result (option_map (λ v. v.items) told.new ≡ told_after (option_map (λ v. v.items) told.old)
+    ensures dumped { OnOk result (option_map (λ v. v.items) dumped.new ≡ dumped_after (option_map (λ v. v.items) dumped.old)
         (ended_by time (kernel_of machine.now.tasking))) }
     ensures whole { OnOk result (Appends (S.bytes sink.old) (S.bytes sink.new)
-        (instants_text (option_map (λ v. v.items) told.old) (ended_by time (kernel_of machine.now.tasking)))) }
+        (instants_text (option_map (λ v. v.items) dumped.old) (ended_by time (kernel_of machine.now.tasking)))) }
     ensures kept { OnOk result (S.failures sink.new ≡ S.failures sink.old) }
     ensures failed { OnErr result (S.failures sink.old < S.failures sink.new) }
     ensures beginning { OnErr result (AppendsBeginning (S.bytes sink.old) (S.bytes sink.new)
-        (instants_text (option_map (λ v. v.items) told.old) (ended_by time (kernel_of machine.now.tasking)))) }
+        (instants_text (option_map (λ v. v.items) dumped.old) (ended_by time (kernel_of machine.now.tasking)))) }
 {
     if machine.now() <= time {
         return Ok(());
@@ -45,10 +45,10 @@ fn write_ended<R: Ready, D: Delays, S: Sink>(
     let values = values_before_clock(machine, time);
     match write_all(
         sink,
-        instant_text(time.unsigned_abs(), told, &values).as_slice(),
+        instant_text(time.unsigned_abs(), dumped, &values).as_slice(),
     ) {
         Ok(()) => {
-            *told = Some(values);
+            *dumped = Some(values);
             Ok(())
         }
         Err(error) => Err(error),
@@ -59,14 +59,14 @@ fn write_ended<R: Ready, D: Delays, S: Sink>(
 fn write_all_ended<R: Ready, D: Delays, S: Sink, L: Ledger>(
     machine: &mut Machine<'_, R, D>,
     limit: u64,
-    told: &mut Option<Values>,
+    dumped: &mut Option<Values>,
     sink: &mut S,
     steps: &mut Steps<L>,
 ) -> Result<Outcome, RunFault>
     requires stands { HoldsWorld machine.old (code machine.old.image machine.old.schedule 0) }
-    requires none { option_map (λ v. v.items) told.old ≡ None }
+    requires none { option_map (λ v. v.items) dumped.old ≡ None }
     ensures stands { OnOk result (HoldsWorld machine.new (code machine.old.image machine.old.schedule limit)) }
-    ensures told { OnOk result (option_map (λ v. v.items) told.new ≡ told_after None (ended machine.old.image machine.old.schedule limit)) }
+    ensures dumped { OnOk result (option_map (λ v. v.items) dumped.new ≡ dumped_after None (ended machine.old.image machine.old.schedule limit)) }
     ensures text { OnOk result (Appends (S.bytes sink.old) (S.bytes sink.new) (instants_text None (ended machine.old.image machine.old.schedule limit))) }
     ensures ends { IfOk result (λ outcome. EndsBy outcome (code machine.old.image machine.old.schedule limit)) }
     ensures kept { OnOk result (S.failures sink.new ≡ S.failures sink.old) }
@@ -85,7 +85,7 @@ fn write_all_ended<R: Ready, D: Delays, S: Sink, L: Ledger>(
         let time = machine.now();
         machine.step(steps);
         taken += 1;
-        match write_ended(time, machine, told, sink) {
+        match write_ended(time, machine, dumped, sink) {
             Ok(()) => {}
             Err(_) => return Err(RunFault::Write),
         }
@@ -109,12 +109,12 @@ fn write_instants<R: Ready, D: Delays, S: Sink, L: Ledger>(
     ensures beginning { AppendsBeginning (S.bytes sink.old) (S.bytes sink.new) (instants_text None (instants machine.old.image machine.old.schedule limit)) }
     ensures count { steps.new ≤ steps.old + limit }
 {
-    let mut told = None;
-    let outcome = write_all_ended(machine, limit, &mut told, sink, steps)?;
+    let mut dumped = None;
+    let outcome = write_all_ended(machine, limit, &mut dumped, sink, steps)?;
     let time = machine.now().unsigned_abs();
     match write_all(
         sink,
-        instant_text(time, &told, &values_of(machine)).as_slice(),
+        instant_text(time, &dumped, &values_of(machine)).as_slice(),
     ) {
         Ok(()) => Ok(outcome),
         Err(_) => Err(RunFault::Write),

@@ -151,12 +151,12 @@ pub(crate) fn changed_text(step: u64, before: &Values, after: &Values) -> StepTe
 
 /// The text of an instant at this time (microseconds since the start), where these values were written last, if any were.
 #[inline(never)]
-pub(crate) fn instant_text(time: u64, told: &Option<Values>, values: &Values) -> StepText
-    ensures { result.items ≡ instant_text time (option_map (λ v. v.items) told.now) values.now.items }
+pub(crate) fn instant_text(time: u64, dumped: &Option<Values>, values: &Values) -> StepText
+    ensures { result.items ≡ instant_text time (option_map (λ v. v.items) dumped.now) values.now.items }
 {
-    match told {
+    match dumped {
         None => start_text(time, values),
-        Some(told) => changed_text(time, told, values),
+        Some(dumped) => changed_text(time, dumped, values),
     }
 }
 

@@ -4,10 +4,11 @@ ghost use Rattle.std.specs.Io.KnownBytes.{Appends};
 ghost use Rattle.image.specs.Code.{code};
 ghost use Rattle.machine.specs.Stands.{EndsBy, HoldsWorld};
 ghost use Rattle.machine.specs.Written.{AppendsBeginning};
+ghost use Rattle.machine.specs.Taken.{steps_taken};
 ghost use Rattle.tasking.specs.Held.{kernel_of};
 ghost use Rattle.waveforms.specs.Signals.{values};
 ghost use Rattle.waveforms.specs.declared.axis.Axis.TheVariants as axes;
-ghost use Rattle.waveforms.specs.Waves.{declarations_text, start_text, step_text, steps_taken, steps_text, waves_text};
+ghost use Rattle.waveforms.specs.Waves.{declarations_text, start_text, step_text, steps_text, waves_text};
 
 use crate::axis::Axis;
 use crate::declarations::declarations;

@@ -17,7 +17,7 @@ returns-clause-noted g c stories is =
     let later : to_z w64 (of_z w64 c.now-2.result) ≡ l.now = second ∙ c.now-2.ensures in
     let since : c.as_slice.result.now ≡ since_clock k l c.args.ran = c.as_slice.ensures.value ∙ c.since_clock-since.ensures in
     let tasks : c.tasks-tasks.result ≡ length c.args.after.now.image.tasks = c.tasks-tasks.ensures.image in
-    let start : Stories = with_notice (noticed c.args.ran (happens.Steps c.args.step)) stories in
+    let start : Stories = with_notice (noticed c.args.ran (happens.Steps c.args.step c.args.frames)) stories in
     subst (λ (now : Stories). IsTable c.note_events-2.new.actors (λ t. measures (now t)))
     (λ j. with_events (tasks j) (later j) c.args.step (since j) (with_events (tasks j) (time j) c.args.step c.args.until.now start))
     (c.note_events-2.ensures.noted _ (c.note_events.ensures.noted _ (c.note.ensures.noted stories is)))

@@ -30,6 +30,9 @@ returns-clause-beginning g c =
     let is = c.as_slice-2.ensures.value ∙ c.in_ok-extend_from_slice.ensures.items ∙ whole in
     subst (AppendsBeginning (g.S.Sink.bytes c.args.sink.now) (g.S.Sink.bytes c.write_all.new.sink)) is c.write_all.ensures.beginning
 
+pub returns-in_err-measures-clause-beginning : goal.returns-in_err-measures-clause-beginning
+returns-in_err-measures-clause-beginning g c = nothing_written (g.S.Sink.bytes c.args.sink.now) (measures_text c.args.form c.args.image.now c.args.names.now c.args.schedule.now c.args.bound)
+
 pub returns-in_err-times-clause-beginning : goal.returns-in_err-times-clause-beginning
 returns-in_err-times-clause-beginning g c = nothing_written (g.S.Sink.bytes c.args.sink.now) (measures_text c.args.form c.args.image.now c.args.names.now c.args.schedule.now c.args.bound)
 

@@ -18,7 +18,7 @@ loop-step-init g c = (
 pub loop-step-preserved : goal.loop-step-preserved
 loop-step-preserved g c =
     let less = c.loop-step-test.true in (
-      measured_on _ _ _ _ _ _ _ c.loop-step.invariant.0 c.ahead_of-ahead.result c.ahead_of-ahead.ensures c.step.new.self c.step.result c.step.ensures.world (sym c.in_default.ensures.outcome)
+      measured_on _ _ _ _ _ _ _ c.loop-step.invariant.0 c.ahead_of-ahead.result c.ahead_of-ahead.ensures c.frames_ahead-frames.result c.frames_ahead-frames.ensures c.step.new.self c.step.result c.step.ensures.world (sym c.in_default.ensures.outcome)
           c.step-in-loop-step.new.self c.step-in-loop-step.result c.step-in-loop-step.ensures.world c.step-in-loop-step.ensures.image c.step.ensures.image c.step-in-loop-step.ensures.schedule c.step.ensures.schedule _ c.note_call.ensures.noted _
           (c.note_step.ensures.noted _ _ _ _ c.loop-step.invariant.0.measured),
       omega (arith, less),

@@ -10,7 +10,7 @@ loop-taken-preserved g c =
     let less = c.loop-taken-test.true in
     let same : to_z w64 (of_z w64 c.now-time.result) ≡ c.now-time.result = search rules in (
       timed_on _ _ _ _ _ _ _ _ _ c.loop-taken.invariant.0 c.step.new.self c.step.result c.step.ensures.world (to_z w64 (of_z w64 c.now-time.result)) (same ∙ c.now-time.ensures) _
-          c.step.ensures.image c.step.ensures.schedule _ _ c.in-Ok.ensures.told c.in-Ok.ensures.whole c.in-Ok.ensures.kept,
+          c.step.ensures.image c.step.ensures.schedule _ _ c.in-Ok.ensures.dumped c.in-Ok.ensures.whole c.in-Ok.ensures.kept,
       omega (arith, less),
       omega (arith, c.loop-taken.invariant.2, c.step.ensures.one),
     )
@@ -29,11 +29,11 @@ returns-in-Some-clause-stands g c =
     (timed_over c.outcome_stays.ensures _ _ _ c.args.limit _ _ _ _ _ _ c.loop-taken.invariant.0 c.loop-taken.invariant.1 (inr (last.0, sym c.in-Some.ensures.outcome ∙ last.1)) c.in-Some.outcome
     (record { outcome = sym c.in-Some.ensures.outcome; time = sym last.2 })).stands
 
-pub returns-in-Some-clause-told : goal.returns-in-Some-clause-told
-returns-in-Some-clause-told g c =
+pub returns-in-Some-clause-dumped : goal.returns-in-Some-clause-dumped
+returns-in-Some-clause-dumped g c =
     let last = c.in-Some.ensures.last in
     (timed_over c.outcome_stays.ensures _ _ _ c.args.limit _ _ _ _ _ _ c.loop-taken.invariant.0 c.loop-taken.invariant.1 (inr (last.0, sym c.in-Some.ensures.outcome ∙ last.1)) c.in-Some.outcome
-    (record { outcome = sym c.in-Some.ensures.outcome; time = sym last.2 })).told_is
+    (record { outcome = sym c.in-Some.ensures.outcome; time = sym last.2 })).dumped_is
 
 pub returns-in-Some-clause-text : goal.returns-in-Some-clause-text
 returns-in-Some-clause-text g c =
@@ -54,12 +54,12 @@ returns-clause-stands g c =
     let at : c.loop-taken.taken ≡ c.args.limit = omega (arith, low, high) in
     (timed_over c.outcome_stays.ensures _ _ _ c.args.limit _ _ _ _ _ _ c.loop-taken.invariant.0 low (inl at) _ c.outcome_or_limit.ensures).stands
 
-pub returns-clause-told : goal.returns-clause-told
-returns-clause-told g c =
+pub returns-clause-dumped : goal.returns-clause-dumped
+returns-clause-dumped g c =
     let low = c.loop-taken.invariant.1 in
     let high = c.loop-taken-test.false in
     let at : c.loop-taken.taken ≡ c.args.limit = omega (arith, low, high) in
-    (timed_over c.outcome_stays.ensures _ _ _ c.args.limit _ _ _ _ _ _ c.loop-taken.invariant.0 low (inl at) _ c.outcome_or_limit.ensures).told_is
+    (timed_over c.outcome_stays.ensures _ _ _ c.args.limit _ _ _ _ _ _ c.loop-taken.invariant.0 low (inl at) _ c.outcome_or_limit.ensures).dumped_is
 
 pub returns-clause-text : goal.returns-clause-text
 returns-clause-text g c =

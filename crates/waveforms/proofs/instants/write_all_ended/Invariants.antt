@@ -5,7 +5,7 @@ use Rattle.waveforms.proofs.instants.write_all_ended.Given as goal
 
 abbrev pub invariant-loop-taken : goal.invariant-loop-taken
 invariant-loop-taken g l =
-    Timed l.fn.machine.image l.fn.machine.schedule l.taken l.machine (option_map (λ v. v.items) l.told) (g.S.Sink.bytes l.fn.sink) (g.S.Sink.bytes l.sink) (g.S.Sink.failures l.fn.sink) (g.S.Sink.failures l.sink)
+    Timed l.fn.machine.image l.fn.machine.schedule l.taken l.machine (option_map (λ v. v.items) l.dumped) (g.S.Sink.bytes l.fn.sink) (g.S.Sink.bytes l.sink) (g.S.Sink.failures l.fn.sink) (g.S.Sink.failures l.sink)
     × (l.taken ≤ l.fn.limit)
     × (l.steps ≤ l.fn.steps + l.taken)
 

@@ -33,9 +33,9 @@ returns-clause-noted g c stories called used instants are =
     let actors = with_items_is c.args.self.now.actors c.note_changes.new.actors first in
     let objects = with_items_is c.args.self.now.objects c.note_calls.new.objects second in
     record {
-      actors = subst (λ table. IsTable table (λ t. measures (happened_by_step tasks c.args.calls.now c.args.ahead k l c.args.step None k.running stories t))) (sym actors)
-          (subst (λ ran. IsTable c.note_changes.new.actors (λ t. measures (happened_by_step tasks c.args.calls.now c.args.ahead k l c.args.step None ran stories t))) runs
-          (subst (λ (events : List Event). IsTable c.note_changes.new.actors (λ t. measures (with_events tasks l.now c.args.step (since_clock k l c.in-Some.ran) (with_events tasks k.now c.args.step events (with_notice (noticed c.in-Some.ran (happens.Steps c.args.step)) stories)) t))) until
+      actors = subst (λ table. IsTable table (λ t. measures (happened_by_step tasks c.args.calls.now c.args.ahead c.args.frames k l c.args.step None k.running stories t))) (sym actors)
+          (subst (λ ran. IsTable c.note_changes.new.actors (λ t. measures (happened_by_step tasks c.args.calls.now c.args.ahead c.args.frames k l c.args.step None ran stories t))) runs
+          (subst (λ (events : List Event). IsTable c.note_changes.new.actors (λ t. measures (with_events tasks l.now c.args.step (since_clock k l c.in-Some.ran) (with_events tasks k.now c.args.step events (with_notice (noticed c.in-Some.ran (happens.Steps c.args.step c.args.frames)) stories)) t))) until
           (c.note_changes.ensures.noted stories begun)));
       objects = subst (λ table. IsTable table (λ o. object_measures (called_by_step c.args.calls.now c.args.ahead k l None k.running called o))) (sym objects)
           (subst (λ ran. IsTable c.note_calls.new.objects (λ o. object_measures (called_by_step c.args.calls.now c.args.ahead k l None ran called o))) runs

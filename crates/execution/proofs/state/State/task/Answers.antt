@@ -5,7 +5,7 @@ use Rattle.execution.specs.Held.{row_of, task_at, tasks_in, tasks_of}
 use Rattle.execution.specs.Settling.{RunsThere}
 use Rattle.execution.proofs.RowsOf.{task_get}
 use Rattle.execution.proofs.Tasks.{at_row, there_in}
-use Rattle.execution.proofs.state.State.address.Goals as goal
+use Rattle.execution.proofs.state.State.task.Goals as goal
 
 pub returns : goal.returns
 returns g c =
@@ -21,4 +21,4 @@ returns g c =
     ap {A = TaskRow} (λ r. r.task) (c.in-Some.ensures.lookup.3.1 none ∙ ap (λ n. get_or c.deref.result.now n none) row
     ∙ ap (λ rs. get_or rs (row_of program task) none) c.deref.ensures.value)
     ∙ (task_get rows (row_of program task) none ∙ sym (at_row program c.self.inside.tasking.handler (tasks_in rows) task t.here)) in
-    subst (λ h. c.place.result ≡ (tasks_of h task).frame.place) c.self.view_is (c.place.ensures ∙ ap (λ s. s.frame.place) here)
+    subst (λ h. c.in-Some.state.now.task ≡ tasks_of h task) c.self.view_is here

@@ -3,6 +3,6 @@ use Rattle.std.specs.Prelude.{ℕ, List, [], ◌∷◌, Option, Some}
 use Rattle.kernel.specs.State.{Kernel}
 use Rattle.waveforms.specs.Signals.{values}
 
-abbrev pub told_after : Option (List ℕ) → List Kernel → Option (List ℕ)
-told_after told [] = told
-told_after told (k ∷ ks) = told_after (Some (values k)) ks
+abbrev pub dumped_after : Option (List ℕ) → List Kernel → Option (List ℕ)
+dumped_after dumped [] = dumped
+dumped_after dumped (k ∷ ks) = dumped_after (Some (values k)) ks

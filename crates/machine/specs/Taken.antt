@@ -1,4 +1,4 @@
--- How far a run goes.
+-- How many steps of a run are taken.
 use Rattle.std.specs.Prelude.{ℕ, zero, suc, ◌+◌, List, Option, Some, None}
 use Rattle.base.specs.declared.schedule.ScheduleLine.{ScheduleLine}
 use Rattle.kernel.specs.State.{Outcome}
