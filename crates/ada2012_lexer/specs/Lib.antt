@@ -1,0 +1,9 @@
+pub mod Characters
+pub mod Delimiters
+pub mod Words
+pub mod Faults
+pub mod Numbers
+pub mod Quoted
+pub mod Elements
+pub mod Shapes
+pub mod Reading

@@ -1,0 +1,9 @@
+pub mod Reading
+pub mod Trimmed
+pub mod Going
+pub mod Apart
+pub mod Gaps
+pub mod Pieced
+pub mod Settled
+pub mod Kept
+pub mod Examples

@@ -1,0 +1,5 @@
+pub mod Pieces
+pub mod Constructs
+pub mod Spacing
+pub mod Layout
+pub mod Laws
