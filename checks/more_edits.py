@@ -1,7 +1,8 @@
 #!/usr/bin/env python3
 """Tries edits that the prover must refuse, beside those that each gate tries: those of checks/more_edits/CRATE.
 
-usage: checks/more_edits.py [--alone] [CRATE..], at the top of the repository, after `rt ci`; all crates that have some where none is named
+usage: checks/more_edits.py [--alone] [--lanes N] [CRATE..], at the top of the repository, after `rt ci`; all crates that have some where none is named, and N (1)
+of them side by side
 
 Contracts are modular: what a function must prove depends on its own body and on the contracts of what it calls. So edits of the bodies of different functions of a
 crate are tried in one check of these functions, over the libraries that `rt ci` has built, and each is judged by what the check says of its own function. An edit
@@ -9,6 +10,8 @@ of anything else, one whose function is proved with it, and with --alone each, i
 
 Each edit has a line with what is not proved with it. The exit status is 1 where one is not refused."""
 
+import argparse
+import concurrent.futures
 import contextlib
 import os
 import re
@@ -188,17 +191,22 @@ def tried(crate, is_alone, used):
     return [(edit, found.get(edit.name) or refusal_alone(edit)) for edit in edits]
 
 
-def main(words):
-    is_alone = words[:1] == ["--alone"]
-    crates = words[is_alone:] or sorted(os.listdir(HERE))
+def main():
+    parser = argparse.ArgumentParser()
+    parser.add_argument("--alone", action="store_true")
+    parser.add_argument("--lanes", type=int, default=1, metavar="N")
+    parser.add_argument("crates", nargs="*", metavar="CRATE")
+    words = parser.parse_args()
     used, count, lost = libraries(), 0, 0
-    for crate in crates:
-        for edit, why in tried(crate, is_alone, used):
-            count, lost = count + 1, lost + (why is None)
-            print(f"{crate} {edit.name.removesuffix('.edit')}: {'NOT REFUSED' if why is None else why}", flush=True)
+    crates = words.crates or sorted(os.listdir(HERE))
+    with concurrent.futures.ThreadPoolExecutor(words.lanes) as lanes:
+        for crate, edits in zip(crates, lanes.map(lambda crate: tried(crate, words.alone, used), crates)):
+            for edit, why in edits:
+                count, lost = count + 1, lost + (why is None)
+                print(f"{crate} {edit.name.removesuffix('.edit')}: {'NOT REFUSED' if why is None else why}", flush=True)
     print(f"more edits: {count - lost} of {count} refused")
     return 1 if lost else 0
 
 
 if __name__ == "__main__":
-    sys.exit(main(sys.argv[1:]))
+    sys.exit(main())
