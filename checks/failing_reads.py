@@ -118,6 +118,8 @@ CALLS = [
     (["check", "main.adb"], ["main.adb"]),
     (["check", "faulty.adb"], ["faulty.adb"]),
     (["check", "-"], ["-"]),
+    (["format", "main.adb"], ["main.adb"]),
+    (["format", "-"], ["-"]),
     (["trace", "main.adb", "lines", "100000"], ["main.adb", "lines"]),
     (["trace", "--vcd", "main.adb", "lines", "100000"], ["main.adb", "lines"]),
     (["trace", "--chart", "main.adb", "lines", "100000"], ["main.adb", "lines"]),

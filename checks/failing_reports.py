@@ -17,6 +17,7 @@ from refusals import content
 from rows import row_of
 
 FAULTY = b"pragma Profile (Ravenscar);\npackage App is N : Integer := True; M : Nobody; end App;\npackage body App is end App;\nwith App;\nprocedure Main is begin null; end Main;\n"
+MISSPELLED = b"procedure Main is begin X := 1__2; end Main;\n"
 ROWS = {
     "waits.adb": ("entries", "a caller that nobody serves"),
     "raises.adb": ("programs", "an exception of a handler passes by the other handlers of its sequence"),
@@ -42,6 +43,7 @@ CALLS = [
     ["simulate", "raises.adb"],
     ["simulate", "ends.adb", "empty", "3"],
     ["check", "faulty.adb"],
+    ["format", "misspelled.adb"],
 ]
 # What is written where nothing is reported.
 SILENT = [["go", "ends.adb", "empty", "100000"], ["simulate", "ends.adb"], ["check", "ends.adb"], ["compile", "ends.adb", "new.img"], ["version"]]
@@ -111,6 +113,7 @@ def main():
     program, writing, folder = (os.path.abspath(word) for word in sys.argv[1:])
     os.makedirs(folder)
     write(folder, "faulty.adb", FAULTY)
+    write(folder, "misspelled.adb", MISSPELLED)
     write(folder, "empty", b"")
     for name, row in ROWS.items():
         write(folder, name, row_of(*row)[0])

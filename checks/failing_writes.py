@@ -62,6 +62,7 @@ FIRST_LINES = [
     (["run", "long.img", "empty", "100000"], "stdout", CANNOT_WRITE),
     (["list", "every.img"], "stdout", CANNOT_WRITE),
     (["search", "long.adb", "many", "20000", "100000", "line", "n"], "stdout", CANNOT_WRITE),
+    (["format", "nulls.adb"], "stdout", CANNOT_WRITE),
     (["check", "faults.adb"], "stderr", (b"", 1)),
 ]
 
@@ -158,6 +159,7 @@ def calls_of_commands(program, folder):
         ["search", "tank.adb", "choices", "20000", "1000"],
         ["search", "tank.adb", "choices", "20000", "1000", "line", "alarm"],
         ["explain", "6", "tank.adb"],
+        ["format", "tank.adb"],
         ["manual"],
         ["version"],
     ]
@@ -184,7 +186,7 @@ def first_line(program, folder, words, stream):
 
 def first_lines(program, folder):
     """How many calls whose reader goes after the first line there are, and what is wrong of them."""
-    for name, data in (("long.adb", LONG), ("faults.adb", FAULTS), ("many", b"0..4095/1 1 5\n")):
+    for name, data in (("long.adb", LONG), ("faults.adb", FAULTS), ("nulls.adb", b"null;\n" * PIPE), ("many", b"0..4095/1 1 5\n")):
         write(folder, name, data)
     subprocess.run([program, "compile", "long.adb", "long.img"], cwd=folder, check=True)
     images = os.path.join(os.path.dirname(os.path.abspath(__file__)), "images.py")

@@ -38,6 +38,7 @@ COMMANDS = [
     ("faulty", ["simulate", FILE]),
     ("lines", ["simulate", "source", FILE]),
     ("faulty", ["check", FILE]),
+    ("source", ["format", FILE]),
     ("source", ["trace", FILE, "lines", "100000"]),
     ("lines", ["trace", "source", FILE, "100000"]),
     ("source", ["trace", "--vcd", FILE, "lines", "100000"]),
@@ -220,7 +221,7 @@ class Command:
 
     def try_standard_input(self):
         """Standard input by the word `-`, of commands that know it."""
-        if self.words[0] not in ("simulate", "check", "search") or self.words[1] != FILE:
+        if self.words[0] not in ("simulate", "check", "format", "search") or self.words[1] != FILE:
             return
         self.unreadable("standard input that is closed", "-", stdin=None, preexec_fn=lambda: os.close(0))
         folder = os.open(self.folder.path("folder"), os.O_RDONLY)

@@ -43,6 +43,7 @@ def calls_of_large(program, folder):
         ("search with many worlds", ["search", "main.adb", "choices", "40000", "10000"], mended),
         ("simulate of a long text", ["simulate", "main.adb"], long),
         ("check of a long text", ["check", "main.adb"], long),
+        ("format of a long text", ["format", "main.adb"], long),
         ("check of 1,000 faults", ["check", "main.adb"], faulty),
         ("go of 1,000 faults", ["go", "main.adb", "empty", "1"], {**faulty, **EMPTY}),
     ]

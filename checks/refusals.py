@@ -128,6 +128,7 @@ def calls_of_commands(program, folder):
     calls = [
         ("check", ["check", "main.adb"], files, None),
         ("check of a text with faults", ["check", "main.adb"], {"main.adb": faulty}, None),
+        ("format", ["format", "main.adb"], files, None),
         ("simulate", ["simulate", "main.adb", "input"], files, None),
         ("simulate of a refused text", ["simulate", "main.adb"], {"main.adb": faulty}, (b"", b"fault 18 at 2:9\n", 2)),
         ("simulate of a run that waits", ["simulate", "main.adb"], {"main.adb": entry}, (lines, b"", status)),

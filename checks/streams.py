@@ -68,6 +68,7 @@ def writing(checks):
         ["search", EXAMPLE, choices, UNTIL, STEPS, "waits", "--part", "1/2"],
         ["list", image],
         ["run", image, EMPTY_SCHEDULE, STEPS],
+        ["format", EXAMPLE],
         ["explain", "12"],
         ["explain", "12", EXAMPLE],
         ["manual"],
@@ -138,6 +139,6 @@ def terminals(checks):
         checks.expect(f"{name} with /dev/null as standard output", left, expected.status, "", expected.err)
     with open(EXAMPLE, "rb") as file:
         text = file.read()
-    for command in ("simulate", "check"):
+    for command in ("simulate", "check", "format"):
         expected = call(checks.program, command, EXAMPLE)
         checks.expect(f"{command} of a text that is typed", typed(text, checks.program, command, "-"), expected.status, expected.out, expected.err)

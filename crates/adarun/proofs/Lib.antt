@@ -13,6 +13,7 @@ mod Searching
 mod FirstFound
 mod Driving
 mod SearchCommand
+mod Formatting
 mod Refuted
 mod Explaining
 mod Every

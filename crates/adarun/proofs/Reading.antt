@@ -12,6 +12,8 @@ use Rattle.file_limits.proofs.Sources.{sources_end}
 use Rattle.file_limits.specs.declared.TheConstants.{CHOICES_BYTES, IMAGE_BYTES, SCHEDULE_BYTES, SOURCE_BYTES}
 use Rattle.image.specs.Sections.{Sections}
 use Rattle.image_format.specs.Bytes.{bytes_of}
+use Rattle.lexer.specs.Spelling.{Spells}
+use Rattle.lexer.specs.declared.token.Token.{Token}
 use Rattle.compiler.specs.ada_tree.specs.ProgramTree.{ProgramTree}
 use Rattle.compiler.specs.expr_rules.specs.Faults.{Faults}
 use Rattle.adarun.specs.Accepted.{IsTreeOf}
@@ -30,8 +32,11 @@ module _ (content : Option (List ℕ)) (text lent : List ℕ) (same : lent ≡ t
   pub begun : (most : ℕ) → IsBeginningRead content most text → IsBeginningRead content most lent
   begun most read = subst (IsBeginningRead content most) (sym same) read
 
+  pub spelled_whole : (tokens : List Token) → IsBeginningRead content SOURCE_BYTES text → Spells lent tokens → IsContentRead content lent
+  spelled_whole tokens read spells = whole content SOURCE_BYTES lent (begun SOURCE_BYTES read) (sources_end lent tokens spells)
+
   pub source_whole : (tree : ProgramTree) → IsBeginningRead content SOURCE_BYTES text → IsTreeOf tree lent → IsContentRead content lent
-  source_whole tree read is = whole content SOURCE_BYTES lent (begun SOURCE_BYTES read) (sources_end lent is.tokens is.spells)
+  source_whole tree read is = spelled_whole is.tokens read is.spells
 
   pub faultless_whole : (faults : Faults) → IsBeginningRead content SOURCE_BYTES text → AreTextFaults lent faults → faults ≡ [] → IsContentRead content lent
   faultless_whole faults read (inl first) none = absurd (let e : [] ≡ first.fault ∷ [] = sym none ∙ first.alone in cc)

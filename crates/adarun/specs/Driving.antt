@@ -39,10 +39,11 @@ use Rattle.measuring.specs.Text.{measures_text}
 use Rattle.measuring.specs.declared.text.Form.TheVariants as tables
 use Rattle.waveforms.specs.TimeWaves.{time_waves_text}
 use Rattle.waveforms.specs.Waves.{waves_text}
-use Rattle.command_line.specs.Words.{CheckText, Command, CompileText, ExplainFault, ExplainText, GoText, ListImage, Nothing, RunImage, ShowManual, ShowVersion, SearchText, SimulateText, TraceText, asked, is_told}
+use Rattle.command_line.specs.Words.{CheckText, Command, CompileText, ExplainFault, ExplainText, FormatText, GoText, ListImage, Nothing, RunImage, ShowManual, ShowVersion, SearchText, SimulateText, TraceText, asked, is_told}
 use Rattle.command_line.specs.Words as words_of
 use Rattle.adarun.specs.Accepted.{Compiles, RefusesText}
 use Rattle.adarun.specs.CodeTold.{IsCodeTold}
+use Rattle.adarun.specs.Formatting.{LeavesFormat}
 use Rattle.adarun.specs.Headline.{Runs, WritesBeginning, WritesItsMeaning}
 use Rattle.adarun.specs.Naming.{names_alone, object_names}
 use Rattle.adarun.specs.Operations.{subprogram_names}
@@ -565,6 +566,8 @@ LeavesWritten (ExplainFault number) standard_input before after status old new =
 LeavesWritten (ExplainText number source) standard_input before after status old new = AreFilesKept before after
     × LeavesExplainText before source number status old new
 LeavesWritten (CheckText source) standard_input before after status old new = AreFilesKept before after × (new ≡ old)
+LeavesWritten (FormatText source) standard_input before after status old new = AreFilesKept before after
+    × LeavesFormat (with_input standard_input before) source status old new
 LeavesWritten (SimulateText source schedule limit until) standard_input before after status old new = AreFilesKept before after
     × LeavesSimulate (with_input standard_input before) source (input_of before schedule) until limit status old new
 LeavesWritten (SearchText source choices until limit sought part is_quiet) standard_input before after status old new = AreFilesKept before after

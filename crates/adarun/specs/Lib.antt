@@ -14,5 +14,6 @@ pub mod Reporting
 pub mod Searching
 pub mod FirstFound
 pub mod Reading
+pub mod Formatting
 pub mod Driving
 pub mod Explaining

@@ -5,6 +5,7 @@ mod code_told;
 mod compilation;
 mod exploring;
 mod files;
+mod format_command;
 mod going;
 mod inputs;
 mod last_reports;

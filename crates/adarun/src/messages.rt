@@ -69,6 +69,17 @@ pub(crate) fn cannot_write<E: Sink>(err: &mut E) -> Status
     tell(err, Status::Failed, &[b"cannot write"])
 }
 
+/// Reports that the layout of a source has more bytes than a text may have.
+pub(crate) fn report_long_layout<E: Sink>(err: &mut E) -> Status
+    ensures { result ≡ Status.Failed }
+{
+    tell(
+        err,
+        Status::Failed,
+        &[b"the layout has more than 65536 bytes"],
+    )
+}
+
 pub(crate) fn unread<E: Sink>(err: &mut E, error: ReadError, name: &str) -> Status
     ensures { result ≡ driving.unread error }
 {

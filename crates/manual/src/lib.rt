@@ -18,6 +18,8 @@ COMMANDS
         the same, and what is wrong is reported by its number and its place alone
     adarun check SRC
         reports every rule that a source breaks, with its line, its rule and a hint
+    adarun format SRC
+        writes a source in one layout; its line breaks and comments stay
     adarun trace SRC SCHED LIMIT [--until TIME]
         reports the run row by row: who runs, waits, is preempted, enters and leaves objects,
         queues and is served, what is raised and where, and what is refused
@@ -53,7 +55,7 @@ COMMANDS
 WORDS
 
     SRC     the file of a source, at most 65536 bytes: one package and a main procedure;
-            - is standard input for simulate, check and search
+            - is standard input for simulate, check, format and search
     IMG     the file of an image
     SCHED   the file of a schedule; /dev/null is the empty one, and so is none for simulate
     LIMIT   the most steps of the run, in decimal digits alone, without underlines or an
@@ -67,7 +69,7 @@ WORDS
 
     A longer name that begins with a hyphen comes after the word --, as in
     adarun go -- -main.adb /dev/null 1000000. There are no options but --vcd, --time,
-    --chart, --tsv, --part, --quiet and --until, which doesn't come after that word.
+    --chart, --svg, --tsv, --part, --quiet and --until, which doesn't come after that word.
 
 FORMATS
 

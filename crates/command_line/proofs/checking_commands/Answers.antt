@@ -7,6 +7,9 @@ use Rattle.command_line.proofs.checking_commands.Goals as goal
 abbrev check : App
 check = command_app (codes "check") (codes "SRC" ∷ [])
 
+abbrev format : App
+format = command_app (codes "format") (codes "SRC" ∷ [])
+
 abbrev shape : App → Shape
 shape a = a.top
 
@@ -14,4 +17,5 @@ pub returns : goal.returns
 returns c =
     let one = c.in_ok-command.ensures.shape c.in_ok-explain_command.ensures.local
     ∙ ap₂ with_subcommand c.in_ok-running_commands.ensures (ap shape c.in_ok-explain_command.ensures.app) in
-    IfOk-weaker c.with_command.result _ _ (λ m adds. adds ∙ ap (λ a. with_subcommand a check.top) one) c.with_command.ensures
+    let two = c.in_ok-command-2.ensures ∙ ap (λ a. with_subcommand a check.top) one in
+    IfOk-weaker c.with_command-2.result _ _ (λ m adds. adds ∙ ap (λ a. with_subcommand a format.top) two) c.with_command-2.ensures

@@ -1,6 +1,6 @@
 use Rattle.std.proofs.Common.{◌≡◌, None, Some, inl, inr, of_z, refl, rules, subst, to_z, w64}
 use Rattle.std.specs.Prelude.{option_map}
-use Rattle.command_line.specs.Words.{CheckText, CompileText, ExplainFault, ExplainText, GoText, ListImage, Nothing, RunImage, SearchText, ShowManual, ShowVersion, SimulateText, TraceText, wanted_of}
+use Rattle.command_line.specs.Words.{CheckText, CompileText, ExplainFault, ExplainText, FormatText, GoText, ListImage, Nothing, RunImage, SearchText, ShowManual, ShowVersion, SimulateText, TraceText, wanted_of}
 use Rattle.adarun.specs.Driving.{LeavesSearch, LeavesTrace, LeavesUntil, input_of}
 use Rattle.adarun.specs.Reading.{with_input}
 use Rattle.adarun.specs.declared.program.Status.TheVariants.{Failed, NoMemory}
@@ -99,6 +99,16 @@ returns-in-Ok-Check-clause-answers g c = record {
   asked_for = λ plain. inl (asked_as _ _ _ c.in-Ok-Check.field-0-is (c.in-Ok-Check.ensures plain));
   leaves = (λ name. refl, refl);
   reports = c.drive_check-status.ensures.leaves;
+}
+
+pub returns-in-Ok-Format-clause-answers : goal.returns-in-Ok-Format-clause-answers
+returns-in-Ok-Format-clause-answers g c = record {
+  work = FormatText c.in-Ok-Format.source.now;
+  status = c.drive_format-status.result;
+  answer_is = search rules;
+  asked_for = λ plain. inl (asked_as _ _ _ c.in-Ok-Format.field-0-is (c.in-Ok-Format.ensures plain));
+  leaves = (λ name. refl, c.drive_format-status.ensures.leaves);
+  reports = tt;
 }
 
 pub returns-in-Ok-Search-clause-answers : goal.returns-in-Ok-Search-clause-answers
