@@ -6,7 +6,8 @@ import resource
 
 from shared import CHECKS, EMPTY_SCHEDULE, STEPS, Called, call, lines_of_trace, make_by, place_of, text_of
 
-STACK, TRACING_STACK, SEARCHING_STACK = 192 * 1024, 256 * 1024, 320 * 1024
+STACK = 192 * 1024
+NUMBER_OF_LARGE = "23"
 FAULT = re.compile(r"fault (\d+) at (\d+:\d+)")
 
 
@@ -75,32 +76,36 @@ def reported(called, fault):
 
 
 def by_other_commands(checks, name, path, status, out, err):
-    """The text by the commands that report more than `go`: `check` and `simulate` with the same stack, those that keep more than one run with larger ones."""
+    """The text by the commands that report more than `go`."""
 
-    def called(*words, stack=STACK):
-        return call(checks.program, *words, env={}, preexec_fn=with_stack(stack))
+    def called(*words):
+        return call(checks.program, *words, env={}, preexec_fn=with_stack(STACK))
 
     run = [path, EMPTY_SCHEDULE, STEPS]
     checked, simulated = called("check", path), called("simulate", *run)
-    traced, dumped = (called("trace", *form, *run, stack=TRACING_STACK) for form in ((), ("--vcd",)))
-    searched = called("search", path, EMPTY_SCHEDULE, "0", STEPS, stack=SEARCHING_STACK)
+    traced, dumped, measured = called("trace", *run), called("trace", "--vcd", *run), called("measure", *run)
+    searched = called("search", path, EMPTY_SCHEDULE, "0", STEPS)
+    number = err.split()[1] if status == 2 else NUMBER_OF_LARGE
+    section, explained = called("explain", number), called("explain", number, path)
+    checks.expect(f"{name}: explain", Called(explained.status, explained.out[: len(section.out)], explained.err), 0, section.out)
     checks.expect(f"{name}: trace", Called(traced.status, lines_of_trace(traced.out), traced.err), status, out, err)
     if status == 2:
         checks.expect(f"{name}: simulate", reported(simulated, err), status, out, err)
         checks.expect(f"{name}: check", reported(checked, err), status, out, err)
         checks.expect(f"{name}: dump", dumped, status, out, err)
+        checks.expect(f"{name}: measure", measured, status, out, err)
         checks.expect(f"{name}: search", searched, status, out, err)
         return
     checks.expect(f"{name}: simulate", Called(simulated.status, simulated.out, ""), status, out)
     checks.expect(f"{name}: check", checked, 0)
     checks.expect(f"{name}: dump", Called(dumped.status, dumped.out.splitlines()[-1:][0], dumped.err), status, "$end")
+    checks.expect(f"{name}: measure", Called(measured.status, measured.out.splitlines()[-1:][0], measured.err), status, out.splitlines()[-1])
     checks.expect(f"{name}: search", Called(searched.status, "", searched.err), 0 if status == 0 else status)
 
 
 def with_a_small_stack(checks):
-    """The longest and the deepest texts of each kind (checks/large_texts.py), with a stack of 192 KiB, 256 for `trace` and 320 for
-    `search`: what a long text needs doesn't grow with its length, and what a deep one needs is bounded by the 40 levels. The environment is on the stack too, so
-    it is empty."""
+    """The longest and the deepest texts of each kind (checks/large_texts.py), with a stack of 192 KiB: what a long text needs doesn't grow with its length, and what
+    a deep one needs is bounded by the 40 levels. The environment is on the stack too, so it is empty."""
     folder = checks.path("large")
     make_by("large_texts.py", folder)
     for name in sorted(re.sub(r"\.adb$", "", file) for file in os.listdir(folder) if file.endswith(".adb")):

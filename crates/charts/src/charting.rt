@@ -124,6 +124,7 @@ fn chart_on<R: Ready, D: Delays, L: Ledger>(
 ///
 /// # Errors
 /// `Memory` where memory was refused, before anything is written; `Write` where a write failed, and what was written then is a beginning of the text.
+#[inline(never)]
 pub fn chart<S: Sink, L: Ledger>(
     alloc: Global,
     image: &Image,

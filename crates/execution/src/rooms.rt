@@ -29,7 +29,7 @@ pub struct Rooms<'a> {
     pub(crate) memory: Memory,
     pub(crate) tasks: Vec<TaskState>,
     pub(crate) parameters: Parameters,
-    pub(crate) tables: Tables,
+    pub(crate) tables: Box<Tables>,
 }
 
 impl<'a> Model for Rooms<'a> {
@@ -139,7 +139,7 @@ fn restore_row(rows: &mut Vec<TaskState>, at: usize, saved: &SavedTask)
 fn resume_tasking<'s, R: Ready, D: Delays>(
     image: &Image,
     pause: &Pause,
-    tables: Tables,
+    tables: Box<Tables>,
     schedule: &'s Schedule,
     passed: usize,
 ) -> Tasking<'s, R, D>

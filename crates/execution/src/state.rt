@@ -350,7 +350,7 @@ fn initial_tasking<'s, R: Ready, D: Delays>(
     let ceilings = ceilings(alloc, image)?;
     let attached = handling_objects(image);
     let lines = schedule.lines();
-    Ok(Tasking::start(&bases, &ceilings, attached, lines))
+    Tasking::start(alloc, &bases, &ceilings, attached, lines)
 }
 
 // For each channel the object whose procedure is its handler; there is no channel 0.

@@ -69,6 +69,7 @@ fn measure_on<R: Ready, D: Delays, L: Ledger>(
 ///
 /// # Errors
 /// `Memory` where memory was refused, before anything is written; `Write` where a write failed, and what was written then is a beginning of the text.
+#[inline(never)]
 pub fn measure<S: Sink, L: Ledger>(
     alloc: Global,
     form: Form,

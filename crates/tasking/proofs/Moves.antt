@@ -1,5 +1,5 @@
 -- The moves, from what holds of the fields before and what the keepers of ready and sleeping tasks promise.
-use Rattle.std.proofs.Common.{◌≡◌, ℕ, ◌<◌, ◌≤◌, ℤ, List, [], ◌∷◌, ◌++◌, Option, Some, None, length, set, refl, sym, ap, ◌∙◌, subst, arith}
+use Rattle.std.proofs.Common.{◌≡◌, ℕ, ◌<◌, ◌≤◌, ℤ, List, [], ◌∷◌, ◌++◌, Option, Some, None, length, map, set, refl, sym, ap, ◌∙◌, subst, arith}
 use Rattle.base.specs.declared.limits.TheConstants.{PRIORITIES, TASKS}
 use Rattle.dispatch.specs.Queues.{Queues, head_at, head_of, highest, without_head}
 use Rattle.kernel.specs.State.{Kernel, active, put}
@@ -7,6 +7,7 @@ use Rattle.kernel.specs.Dispatching.{becomes_ready, highest as kernel_highest, l
 use Rattle.kernel.specs.Clock.{falls_asleep}
 use Rattle.std.proofs.lemmas.List.{length-map, map-append}
 use Rattle.clock.specs.declared.delays.Sleeper.{Sleeper as Row}
+use Rattle.tasking.specs.declared.pause.Tables.{Tables}
 use Rattle.tasking.specs.declared.reports.Place.TheVariants as places
 use Rattle.tasking.specs.Held.{Held, kernel_of, lists_below, sleeper_of, sleepers_of}
 use Rattle.tasking.specs.Orderly.{IsKeptOrderly, IsNowhere, IsOrderly, IsTask, StandsThere, standing}
@@ -18,6 +19,18 @@ use Rattle.tasking.proofs.Moved.{handles_begun, handles_left, handles_same, head
 -- the value before, as the fields are seen
 abbrev pub seen : {h old : Held} → h ≡ old → Held
 seen {h = h} e = h
+
+-- the value with other tables of actions
+abbrev pub with_tables : Held → Tables → Held
+with_tables h tables = record h { objects = tables.objects; kinds = map (λ l. l.items) tables.kinds }
+
+-- with its own tables where they are lent
+module _ (h : Held) {lent own : Tables} (is : lent ≡ own) where
+  pub lent_same : {old : Held} → with_tables h own ≡ old → with_tables h lent ≡ old
+  lent_same same = ap (with_tables h) is ∙ same
+
+  pub lent_kept : IsKeptOrderly (with_tables h own) → IsKeptOrderly (with_tables h lent)
+  lent_kept kept = subst (λ t. IsKeptOrderly (with_tables h t)) (sym is) kept
 
 module _ (h old : Held) (same : h ≡ old) (kept : IsKeptOrderly h) where
   pub task_here : (t : ℕ) → IsTask (kernel_of old) t → IsTask (kernel_of h) t

@@ -1,4 +1,7 @@
 //! Copies of the tasks and protected objects of a partition, from which runs go on.
+ghost use Rattle.std.specs.Prelude.{◌≡◌, map};
+
+use crate::action_kinds::restore_kinds;
 use crate::reports::{Kind, Place};
 use arrayvec::ArrayVec;
 use base::limits::{OBJECTS, TASKS};
@@ -36,4 +39,15 @@ impl Model for Pause {
 pub struct Tables {
     pub(crate) objects: Objects,
     pub(crate) kinds: [ArrayVec<Kind, OBJECTS>; TASKS + 1],
+}
+
+impl Tables {
+    /// They become as those of a pause are.
+    pub(crate) fn restore(&mut self, pause: &Pause)
+        ensures objects { self.new.objects ≡ pause.now.objects }
+        ensures kinds { map (λ l. l.items) self.new.kinds ≡ pause.now.kinds }
+    {
+        self.objects.restore(&pause.objects);
+        restore_kinds(&mut self.kinds, &pause.kinds);
+    }
 }

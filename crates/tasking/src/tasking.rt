@@ -1,5 +1,5 @@
 //! The tasks and protected objects of a partition, and the moves of which effects are made.
-ghost use Rattle.std.specs.Prelude.{◌≡◌, ◌<◌, ◌≤◌, ◌+◌, ◌∷◌, ◌≢◌, List, [], get_or, int_lt, length, IfSome, None, Some, true, false};
+ghost use Rattle.std.specs.Prelude.{◌≡◌, ◌<◌, ◌≤◌, ◌+◌, ◌∷◌, ◌≢◌, List, [], get_or, int_lt, length, IfOk, IfSome, None, Some, true, false};
 ghost use Rattle.base.specs.declared.limits.TheConstants.{CEILING, CHANNELS, OBJECTS, PRIORITIES, TASKS};
 ghost use Rattle.kernel.specs.State.{Writes, active, inside, inside_among, is_object_open, is_task};
 ghost use Rattle.kernel.specs.Dispatching.{becomes_ready, dispatch, highest, leaves, preempted, runs_from};
@@ -13,9 +13,7 @@ ghost use Rattle.tasking.specs.Held.{action_of, ending_as, index_in, innermost, 
 ghost use Rattle.tasking.specs.Waits.{wake_time};
 ghost use Rattle.tasking.specs.Orderly.{AreAwoken, BeginsAttached, IsNowhere, IsOfObject, IsOrderly, IsTask, StandsThere, MayEnd, due, inside_of, is_above, is_gone, least_of, time_ahead, waiting};
 
-use crate::action_kinds::{
-    close_kind, copied_kinds, innermost_kind, open_kind, restore_kinds, serve_kind,
-};
+use crate::action_kinds::{close_kind, copied_kinds, innermost_kind, open_kind, serve_kind};
 use crate::pause::{Pause, Tables};
 use crate::reports::{Ending, Kind, Outcome, Place};
 use arrayvec::ArrayVec;
@@ -24,6 +22,7 @@ use base::limits::{ACTOR, OBJECTS, TASKS};
 use clock::{Delays, Sleeper};
 use dispatch::Ready;
 use protected::{Objects, Refusal};
+use std::alloc::{AllocError, Global};
 use std::marker::Model;
 
 /// How many may be inside an object at most: all tasks and a handler.
@@ -40,8 +39,7 @@ pub struct Tasking<'a, R: Ready, D: Delays> {
     handler: Option<u8>,
     ready: R,
     delays: D,
-    objects: Objects,
-    kinds: [ArrayVec<Kind, OBJECTS>; TASKS + 1],
+    tables: Box<Tables>,
     places: [Place; TASKS],
     time: i64,
     outcome: Option<Outcome>,
@@ -56,11 +54,11 @@ impl<'a, R: Ready, D: Delays> Model for Tasking<'a, R, D> {
 
     ghost Value = { Held };
 
-    ghost view = { λ s. held s.running s.handler (R.queues s.ready) (D.sleepers s.delays) s.objects (map (λ l. l.items) s.kinds) s.places s.time s.outcome
-        s.attached s.ahead.now };
+    ghost view = { λ s. held s.running s.handler (R.queues s.ready) (D.sleepers s.delays) s.tables.value.objects (map (λ l. l.items) s.tables.value.kinds)
+        s.places s.time s.outcome s.attached s.ahead.now };
 
-    ghost invariant = { λ s. Kept (held s.running s.handler (R.queues s.ready) (D.sleepers s.delays) s.objects (map (λ l. l.items) s.kinds) s.places s.time
-        s.outcome s.attached s.ahead.now) };
+    ghost invariant = { λ s. Kept (held s.running s.handler (R.queues s.ready) (D.sleepers s.delays) s.tables.value.objects
+        (map (λ l. l.items) s.tables.value.kinds) s.places s.time s.outcome s.attached s.ahead.now) };
 }
 
 // The object whose procedure is the handler of a channel, if it has one.
@@ -116,49 +114,65 @@ fn sleeping<D: Delays>(sleepers: &[Sleeper]) -> D
 impl<'a, R: Ready, D: Delays> Tasking<'a, R, D> {
     /// The tasks and objects with these base and ceiling priorities at time 0: all tasks are ready in order of declaration, and dispatched (RM 9.2, H.6). The
     /// lines of a schedule are interrupts where their channel has a handler (RM C.3).
+    ///
+    /// # Errors
+    /// Where memory was refused.
     pub fn start(
+        alloc: Global,
         bases: &[u8],
         ceilings: &[u8],
         attached: Attached,
         lines: &'a [ScheduleLine],
-    ) -> Self
+    ) -> Result<Self, AllocError>
         requires tasks { length bases.now ≤ TASKS }
         requires objects { length ceilings.now ≤ OBJECTS }
         requires priorities { Fits (partition_of bases.now ceilings.now) }
         requires channels { length attached ≤ CHANNELS + 1 }
         requires attached { AreAttached (partition_of bases.now ceilings.now) (pending_of attached lines.now) }
-        ensures { kernel_of result ≡ begin (partition_of bases.now ceilings.now) (pending_of attached lines.now) }
+        ensures { IfOk result (λ tasking. kernel_of tasking ≡ begin (partition_of bases.now ceilings.now) (pending_of attached lines.now)) }
     {
-        let mut tasking = Self::blank(bases, ceilings, attached, lines);
+        let mut tasking = Self::blank(alloc, bases, ceilings, attached, lines)?;
         for task in 0..tasking.task_count() {
             tasking.becomes_ready(task);
         }
         tasking.settle();
-        tasking
+        Ok(tasking)
     }
 
     // The tasks and objects at time 0, before any task is ready.
-    fn blank(bases: &[u8], ceilings: &[u8], attached: Attached, lines: &'a [ScheduleLine]) -> Self
+    fn blank(
+        alloc: Global,
+        bases: &[u8],
+        ceilings: &[u8],
+        attached: Attached,
+        lines: &'a [ScheduleLine],
+    ) -> Result<Self, AllocError>
         requires tasks { length bases.now ≤ TASKS }
         requires objects { length ceilings.now ≤ OBJECTS }
         requires priorities { Fits (partition_of bases.now ceilings.now) }
         requires channels { length attached ≤ CHANNELS + 1 }
         requires attached { AreAttached (partition_of bases.now ceilings.now) (pending_of attached lines.now) }
-        ensures { kernel_of result ≡ blank (partition_of bases.now ceilings.now) (pending_of attached lines.now) }
+        ensures { IfOk result (λ tasking. kernel_of tasking ≡ blank (partition_of bases.now ceilings.now) (pending_of attached lines.now)) }
     {
-        Tasking {
+        let tables = Box::new(
+            alloc,
+            Tables {
+                objects: Objects::new(bases, ceilings),
+                kinds: Default::default(),
+            },
+        )?;
+        Ok(Tasking {
             running: None,
             handler: None,
             ready: R::new(),
             delays: D::new(),
-            objects: Objects::new(bases, ceilings),
-            kinds: Default::default(),
+            tables,
             places: [Place::Finished; TASKS],
             time: 0,
             outcome: None,
             attached,
             ahead: lines,
-        }
+        })
     }
 
     /// A copy without the interrupts that are pending, if no task is ready and there is no outcome.
@@ -191,12 +205,13 @@ impl<'a, R: Ready, D: Delays> Tasking<'a, R, D> {
         ensures kernel { kernel_of result ≡ record (kernel_of self.now) { pending = [] } }
         ensures handler { result.handler ≡ self.now.handler }
     {
+        let tables = &*self.tables;
         Pause {
             running: self.running,
             handler: self.handler,
             sleepers: self.delays.in_order(),
-            objects: self.objects.copy(),
-            kinds: copied_kinds(&self.kinds),
+            objects: tables.objects.copy(),
+            kinds: copied_kinds(&tables.kinds),
             places: self.places,
             time: self.time,
         }
@@ -205,7 +220,7 @@ impl<'a, R: Ready, D: Delays> Tasking<'a, R, D> {
     /// What there is a copy of, in these tables, with these lines of a schedule as pending interrupts where their channel has a handler (RM C.3).
     pub fn resume(
         pause: &Pause,
-        tables: Tables,
+        mut tables: Box<Tables>,
         attached: Attached,
         lines: &'a [ScheduleLine],
     ) -> Self
@@ -214,19 +229,13 @@ impl<'a, R: Ready, D: Delays> Tasking<'a, R, D> {
         ensures kernel { kernel_of result ≡ record (kernel_of pause.now) { pending = pending_of attached lines.now } }
         ensures handler { result.handler ≡ pause.now.handler }
     {
-        let Tables {
-            mut objects,
-            mut kinds,
-        } = tables;
-        objects.restore(&pause.objects);
-        restore_kinds(&mut kinds, &pause.kinds);
+        tables.restore(pause);
         Tasking {
             running: pause.running,
             handler: pause.handler,
             ready: R::new(),
             delays: sleeping(pause.sleepers.as_slice()),
-            objects,
-            kinds,
+            tables,
             places: pause.places,
             time: pause.time,
             outcome: None,
@@ -239,7 +248,7 @@ impl<'a, R: Ready, D: Delays> Tasking<'a, R, D> {
     pub fn is_task(&self, task: u8) -> bool
         ensures { result ≡ is_task (kernel_of self.now).partition task }
     {
-        task < self.objects.task_count()
+        task < self.tables.objects.task_count()
     }
 
     /// Whether a number is that of a task, or of the handler that runs. Any other one has no action open, and the highest priority.
@@ -381,7 +390,7 @@ impl<'a, R: Ready, D: Delays> Tasking<'a, R, D> {
         ensures same { result ≡ active (kernel_of self.now) task }
         ensures low { result < PRIORITIES }
     {
-        self.objects.active(self.told(task))
+        self.tables.objects.active(self.told(task))
     }
 
     /// Why a task may not open an action of an object by an external call, if anything refuses it (RM 9.5.1, D.3).
@@ -390,7 +399,7 @@ impl<'a, R: Ready, D: Delays> Tasking<'a, R, D> {
         requires object { object < (kernel_of self.now).partition.objects }
         ensures { result ≡ refused_as (call_refusal (kernel_of self.now) task object) }
     {
-        self.objects.may_open(self.told(task), object).err()
+        self.tables.objects.may_open(self.told(task), object).err()
     }
 
     /// Whether a task's active priority exceeds the ceiling of an object (RM D.3).
@@ -399,7 +408,7 @@ impl<'a, R: Ready, D: Delays> Tasking<'a, R, D> {
         requires object { object < (kernel_of self.now).partition.objects }
         ensures { result ≡ is_above_ceiling (kernel_of self.now) task object }
     {
-        self.objects.ceiling(object) < self.active(task)
+        self.tables.objects.ceiling(object) < self.active(task)
     }
 
     /// Whether a call waits in the queue of an object, so that no other may (RM D.7).
@@ -407,7 +416,7 @@ impl<'a, R: Ready, D: Delays> Tasking<'a, R, D> {
         requires { object < (kernel_of self.now).partition.objects }
         ensures { result ≡ is_full (kernel_of self.now) object }
     {
-        self.objects.queued(object).is_some()
+        self.tables.objects.queued(object).is_some()
     }
 
     /// Whether a task is inside any action (RM 9.5.1, H.5).
@@ -415,7 +424,7 @@ impl<'a, R: Ready, D: Delays> Tasking<'a, R, D> {
         requires { StandsThere (kernel_of self.now) task }
         ensures { result ≡ is_inside_any (kernel_of self.now) task }
     {
-        self.objects.in_action(self.told(task))
+        self.tables.objects.in_action(self.told(task))
     }
 
     /// The task whose call waits in the queue of an object, if there is one.
@@ -423,7 +432,7 @@ impl<'a, R: Ready, D: Delays> Tasking<'a, R, D> {
         requires { object < (kernel_of self.now).partition.objects }
         ensures { result ≡ (kernel_of self.now).queued object }
     {
-        self.objects.queued(object)
+        self.tables.objects.queued(object)
     }
 
     /// The tasks inside an object, by their numbers, and the handler (RM 9.5.1).
@@ -468,7 +477,7 @@ impl<'a, R: Ready, D: Delays> Tasking<'a, R, D> {
     pub fn object_count(&self) -> u8
         ensures { result ≡ (kernel_of self.now).partition.objects }
     {
-        self.objects.object_count()
+        self.tables.objects.object_count()
     }
 
     /// The number of tasks.
@@ -476,7 +485,7 @@ impl<'a, R: Ready, D: Delays> Tasking<'a, R, D> {
         ensures same { result ≡ (kernel_of self.now).partition.tasks }
         ensures few { result ≤ TASKS }
     {
-        self.objects.task_count()
+        self.tables.objects.task_count()
     }
 
     // Whether a task is inside an object.
@@ -484,7 +493,7 @@ impl<'a, R: Ready, D: Delays> Tasking<'a, R, D> {
         requires { StandsThere (kernel_of self.now) task }
         ensures { result ≡ is_object_open object ((kernel_of self.now).actions task) }
     {
-        self.objects.is_open(self.told(task), object)
+        self.tables.objects.is_open(self.told(task), object)
     }
 
     // The running task gives up the processor (RM D.2.1).
@@ -670,8 +679,9 @@ impl<'a, R: Ready, D: Delays> Tasking<'a, R, D> {
             unreachable!()
         };
         let handler = self.task_count() + line.channel;
-        self.objects.enter(ACTOR, object);
-        open_kind(&mut self.kinds, TASKS, Kind::Writes);
+        let tables = &mut *self.tables;
+        tables.objects.enter(ACTOR, object);
+        open_kind(&mut tables.kinds, TASKS, Kind::Writes);
         self.running = Some(handler);
         self.handler = Some(handler);
         self.ahead = rest;
@@ -682,8 +692,8 @@ impl<'a, R: Ready, D: Delays> Tasking<'a, R, D> {
         ensures { result ≡ some_queued (kernel_of self.now).queued (kernel_of self.now).partition.objects }
     {
         let mut is_queued = false;
-        for object in 0..self.objects.object_count() {
-            is_queued = self.objects.queued(object).is_some() || is_queued;
+        for object in 0..self.tables.objects.object_count() {
+            is_queued = self.tables.objects.queued(object).is_some() || is_queued;
         }
         is_queued
     }
@@ -733,8 +743,9 @@ impl<'a, R: Ready, D: Delays> Tasking<'a, R, D> {
     {
         let row = self.row(task);
         let number = self.told(task);
-        self.objects.enter(number, object);
-        open_kind(&mut self.kinds, row, kind);
+        let tables = &mut *self.tables;
+        tables.objects.enter(number, object);
+        open_kind(&mut tables.kinds, row, kind);
     }
 
     // The object of a task's innermost action and what the action is for, if the task has one open.
@@ -743,8 +754,9 @@ impl<'a, R: Ready, D: Delays> Tasking<'a, R, D> {
         ensures action { some_action result ≡ innermost ((kernel_of self.now).actions task) }
         ensures object { IfSome result (λ action. action.0 < (kernel_of self.now).partition.objects) }
     {
-        let object = self.objects.innermost(self.told(task))?;
-        let kind = innermost_kind(&self.kinds, self.row(task))?;
+        let tables = &*self.tables;
+        let object = tables.objects.innermost(self.told(task))?;
+        let kind = innermost_kind(&tables.kinds, self.row(task))?;
         Some((object, kind))
     }
 
@@ -755,9 +767,10 @@ impl<'a, R: Ready, D: Delays> Tasking<'a, R, D> {
     {
         let row = self.row(task);
         let number = self.told(task);
-        if let Some(object) = self.objects.innermost(number) {
-            self.objects.close(number, object);
-            close_kind(&mut self.kinds, row);
+        if let Some(object) = self.tables.objects.innermost(number) {
+            let tables = &mut *self.tables;
+            tables.objects.close(number, object);
+            close_kind(&mut tables.kinds, row);
         }
     }
 
@@ -768,7 +781,7 @@ impl<'a, R: Ready, D: Delays> Tasking<'a, R, D> {
         ensures object { IsOfObject (kernel_of self.now) result }
     {
         match self.innermost(task) {
-            Some((object, Kind::Writes)) if is_open => match self.objects.queued(object) {
+            Some((object, Kind::Writes)) if is_open => match self.tables.objects.queued(object) {
                 Some(caller) => Ending::TakesOver { object, caller },
                 None => Ending::Closes,
             },
@@ -786,8 +799,9 @@ impl<'a, R: Ready, D: Delays> Tasking<'a, R, D> {
         ensures { kernel_of self.new ≡ takes_over task object caller (outer_of ((kernel_of self.old).actions task)) (kernel_of self.old) }
     {
         let row = self.row(task);
-        self.objects.to_serve(object, true);
-        serve_kind(&mut self.kinds, row, caller);
+        let tables = &mut *self.tables;
+        tables.objects.to_serve(object, true);
+        serve_kind(&mut tables.kinds, row, caller);
         self.places[usize::from(caller)] = Place::Served(object);
     }
 
@@ -847,7 +861,7 @@ impl<'a, R: Ready, D: Delays> Tasking<'a, R, D> {
         requires room { is_full (kernel_of self.old) object ≡ false }
         ensures { kernel_of self.new ≡ queues task object (kernel_of self.old) }
     {
-        if self.objects.queue(task, object).is_ok() {
+        if self.tables.objects.queue(task, object).is_ok() {
             self.places[usize::from(task)] = Place::Queued(object);
         }
     }
@@ -862,20 +876,19 @@ impl<'a, R: Ready, D: Delays> Tasking<'a, R, D> {
 
 impl<'a, R: Ready + Drop, D: Delays + Drop> Tasking<'a, R, D> {
     /// The memory of its tables of open actions, for another run.
-    pub fn into_tables(self) -> Tables {
+    pub fn into_tables(self) -> Box<Tables> {
         let Tasking {
             running: _,
             handler: _,
             ready: _,
             delays: _,
-            objects,
-            kinds,
+            tables,
             places: _,
             time: _,
             outcome: _,
             attached: _,
             ahead: _,
         } = self;
-        Tables { objects, kinds }
+        tables
     }
 }

@@ -289,6 +289,7 @@ fn trace_on<R: Ready, D: Delays, O: Origins, S: Sink, L: Ledger>(
 ///
 /// # Errors
 /// `Memory` where memory was refused, before anything is written; `Write` where a write failed, and what was written then is a beginning of the trace.
+#[inline(never)]
 pub fn trace<O: Origins, S: Sink, L: Ledger>(
     alloc: Global,
     image: &Image,

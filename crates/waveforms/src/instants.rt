@@ -24,6 +24,7 @@ use std::alloc::Global;
 use std::sync::ledger::Ledger;
 
 // Writes the instant of this time, where the step has ended it: where the clock has moved from there. Then its values are those that were written last.
+#[inline(never)]
 fn write_ended<R: Ready, D: Delays, S: Sink>(
     time: i64,
     machine: &Machine<'_, R, D>,

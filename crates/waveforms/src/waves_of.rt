@@ -31,6 +31,7 @@ struct Ending {
 }
 
 // The declarations and the values at the start.
+#[inline(never)]
 fn beginning<R: Ready, D: Delays>(
     alloc: Global,
     image: &Image,
@@ -53,6 +54,7 @@ fn beginning<R: Ready, D: Delays>(
 }
 
 // Writes what a step has changed, if it has.
+#[inline(never)]
 fn write_step<S: Sink>(
     step: u64,
     before: &Values,
@@ -113,6 +115,7 @@ fn write_steps<R: Ready, D: Delays, S: Sink, L: Ledger>(
 ///
 /// # Errors
 /// `Memory` where memory was refused, before anything is written; `Write` where a write failed, and what was written then is a beginning of the dump.
+#[inline(never)]
 pub fn waves<S: Sink, L: Ledger>(
     alloc: Global,
     image: &Image,

@@ -1,8 +1,9 @@
-use Rattle.std.proofs.Common.{sym, subst, ◌∙◌, arith}
+use Rattle.std.proofs.Common.{◌≡◌, sym, subst, ◌∙◌, arith}
+use Rattle.std.specs.Prelude.{IfOk}
 use Rattle.kernel.specs.Effects.{begin}
 use Rattle.kernel.specs.Invariant.{AreAttached, Fits}
 use Rattle.image.specs.Code.{partition_of}
-use Rattle.tasking.specs.Held.{pending_of}
+use Rattle.tasking.specs.Held.{kernel_of, pending_of}
 use Rattle.execution.proofs.Handlers.{all_attached, pending_is}
 use Rattle.execution.proofs.Starting.{fits_image, same_partition}
 use Rattle.execution.proofs.state.initial_tasking.Goals as goal
@@ -26,4 +27,4 @@ returns g c =
     let same = same_partition c.args.image.now _ _ (c.deref.ensures.value ∙ c.in_ok-bases.ensures) (c.deref-2.ensures.value ∙ c.in_ok-ceilings.ensures) in
     let pending = pending_is c.args.image.now c.handling_objects-attached.result c.lines-lines.result.now c.args.schedule.now c.handling_objects-attached.ensures.objects
     c.lines-lines.ensures in
-    c.start.ensures ∙ (λ j. begin (same j) (pending j))
+    subst (λ k. IfOk c.start.result (λ tasking. kernel_of tasking ≡ k)) (λ j. begin (same j) (pending j)) c.start.ensures

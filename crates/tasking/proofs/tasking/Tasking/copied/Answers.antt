@@ -14,8 +14,8 @@ invariant_of-result g c =
     let kinds = map (λ l. l.items) c.copied_kinds.result in
     let time : to_z w64 (of_z w64 h.time) ≡ h.time = search rules in
     subst (λ t. IsKeptOrderly (held_with h.running h.handler t h.places none rows c.copy.result kinds None [] [])) (sym time)
-    (copied_kept h.running h.handler h.time h.places none h.sleepers rows h.objects c.copy.result h.kinds kinds None [] [] c.in_order.ensures c.copy.ensures
-    c.copied_kinds.ensures
+    (copied_kept h.running h.handler h.time h.places none h.sleepers rows h.objects c.copy.result h.kinds kinds None [] [] c.in_order.ensures
+    (c.copy.ensures ∙ ap (λ t. t.objects) c.deref-tables.ensures) (c.copied_kinds.ensures ∙ ap (λ t. map (λ l. l.items) t.kinds) c.deref-tables.ensures)
     (still_kept h.running h.handler h.time h.places h.ready none h.sleepers h.objects h.kinds h.outcome None h.attached [] h.ahead []
     (ap (λ v. v.ready) c.self.view_is ∙ c.requires.ready) c.self.invariant (omega arith) tt))
 
@@ -28,7 +28,8 @@ returns-clause-kernel g c =
     let time : to_z w64 (of_z w64 h.time) ≡ h.time = search rules in
     (λ j. kernel_of (held_with h.running h.handler (time j) h.places none rows c.copy.result kinds None [] []))
     ∙ (same_kernel h.running h.handler h.time h.places h.ready none h.sleepers rows h.objects c.copy.result h.kinds kinds h.outcome h.attached [] h.ahead []
-    (ap (λ v. v.ready) c.self.view_is ∙ c.requires.ready) c.in_order.ensures c.copy.ensures c.copied_kinds.ensures
+    (ap (λ v. v.ready) c.self.view_is ∙ c.requires.ready) c.in_order.ensures
+    (c.copy.ensures ∙ ap (λ t. t.objects) c.deref-tables.ensures) (c.copied_kinds.ensures ∙ ap (λ t. map (λ l. l.items) t.kinds) c.deref-tables.ensures)
     (ap (λ v. v.outcome) c.self.view_is ∙ c.requires.outcome)
     ∙ ap (λ v. record (kernel_of v) { pending = [] }) c.self.view_is)
 

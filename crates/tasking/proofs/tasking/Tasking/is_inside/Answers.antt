@@ -1,9 +1,11 @@
 use Rattle.std.proofs.Common.{◌∙◌}
-use Rattle.tasking.proofs.Moves.{seen}
+use Rattle.tasking.proofs.Moves.{lent_kept, lent_same, seen}
 use Rattle.tasking.proofs.Objects.{inside_is}
 use Rattle.tasking.proofs.tasking.Tasking.is_inside.Goals as goal
 
 pub returns : goal.returns
 returns g c =
+    let now = lent_same (seen c.self.view_is) c.deref.ensures c.self.view_is in
+    let kept = lent_kept (seen c.self.view_is) c.deref.ensures c.self.invariant in
     c.is_open.ensures
-    ∙ inside_is (seen c.self.view_is) c.args.self.now c.self.view_is c.self.invariant c.args.task c.requires c.told.result c.told.ensures.told c.args.object
+    ∙ inside_is (seen now) c.args.self.now now kept c.args.task c.requires c.told.result c.told.ensures.told c.args.object
