@@ -1,6 +1,6 @@
 #!/usr/bin/env python3
 """A campaign: random programs beside an interpreter of sources, changed texts beside a judge of rules, images beside their rules and a machine over plain
-lists, traces and dumps beside that machine, searches beside running each schedule.
+lists, traces, dumps and measures beside that machine, searches beside the run of each schedule by the interpreter.
 
     campaign.py [--program PROGRAM] [--kind KIND]... [--count N] [--case SEED] [MINUTES [SEED]]
 
@@ -24,17 +24,22 @@ sys.dont_write_bytecode = True
 HERE = os.path.dirname(os.path.realpath(__file__))
 sys.path.insert(0, os.path.join(HERE, "campaigns"))
 
-from cases import KINDS, Caller, Difference  # noqa: E402
+from cases import KINDS, Caller, Difference, legal_texts  # noqa: E402
 
 MINUTES, SEED, MINUTE, DEPTH, STACK = 2, "adarun", 60, 30_000, 512 * 2**20
 CALLER = None
 
 
-def begin(program, folder):
-    """What each process needs once: deep sources are read and run by recursion."""
-    global CALLER
+def allow_depth():
+    """Deep sources are read and run by recursion."""
     sys.setrecursionlimit(DEPTH)
     threading.stack_size(STACK)
+
+
+def begin(program, folder):
+    """What each process needs once."""
+    global CALLER
+    allow_depth()
     CALLER = Caller(program, folder)
 
 
@@ -104,7 +109,9 @@ class Campaign:
             number += 1
 
     def run(self, program):
-        workers = os.cpu_count()
+        workers = len(os.sched_getaffinity(0))
+        if "texts" in self.arguments.kind:
+            within_a_thread(legal_texts)  # once, for all processes
         with ProcessPoolExecutor(workers, initializer=begin, initargs=(program, self.folder)) as pool:
             seeds, running = self.seeds(), []
             while not self.is_over():
@@ -138,6 +145,7 @@ def main():
     parser.add_argument("seed", nargs="?", default=SEED)
     arguments = parser.parse_args()
     arguments.kind = [arguments.case.split("-")[-2]] if arguments.case else arguments.kind or list(KINDS)
+    allow_depth()
     folder = tempfile.mkdtemp(prefix="campaign-")
     status = Campaign(arguments, folder).run(program_of(arguments.program))
     if status == 0:

@@ -57,7 +57,7 @@ class Chart:
         self.time = int(self.last.split()[-1])
         self.scale = next(s for s in (digit * 10**n for n in range(20) for digit in (1, 2, 5)) if self.time < COLUMNS * s)
         self.inputs, self.lines = Row("^"), Row("v")
-        self.actors = {actor.name: Row("!LP#") for actor in world.everyone()}
+        self.actors = {actor.name: Row("!LP#") for actor in world.everyone}
         self.objects = {world.object(o): Row("x") for o in range(len(world.objects))}
         self.tasks = [task.name for task in world.tasks]
         for row in rows:

@@ -6,7 +6,7 @@
 WRITING is what makes a write go wrong, and tells that it did (streams.c). Where the nth write fails, or takes nothing, the program says `cannot write` and ends with
 status 1 (`simulate` says nothing), and standard output has a beginning of what the call writes, nothing where n is 1; the beginnings grow with n, up to the first n
 that no call comes to, whose call writes all. Where the nth write takes one byte, or each of them does, all of it is written. Where nobody reads the pipe that
-standard output is, it says the same, and no signal ends it; so it does where the reader goes after the first line of more than the pipe holds, as `head -1`. `check`
+standard output is, it says nothing, and has status 1; so it does where the reader goes after the first line of more than the pipe holds, as `head -1`. `check`
 has status 1 where standard error is that pipe.
 """
 import errno
@@ -15,10 +15,12 @@ import os
 import subprocess
 import sys
 
+import full_programs
 import mnemonics
 from rows import row_of
 
-FAILING = [str(number) for number in (errno.ENOSPC, errno.EIO, errno.EPIPE, errno.EAGAIN, errno.EFBIG)] + ["none"]
+UNREAD = str(errno.EPIPE)
+FAILING = [str(number) for number in (errno.ENOSPC, errno.EIO, errno.EAGAIN, errno.EFBIG)] + [UNREAD, "none"]
 MOST = 1_000
 CANNOT_WRITE = (b"cannot write\n", 1)
 SILENT = (b"", 1)
@@ -51,19 +53,22 @@ with App;
 procedure Main is begin App.Run; end Main;
 """
 FAULTS = LONG.replace(b'Put ("n", I);', b"X := Y;\n" * 100)
-# Calls with long answers: their words, which stream has the answer, and what the other one has, and the status, where the reader goes after the first line.
+# Calls with long answers: their words, and which stream has the answer.
 FIRST_LINES = [
-    (["go", "long.adb", "empty", "100000"], "stdout", CANNOT_WRITE),
-    (["simulate", "long.adb"], "stdout", SILENT),
-    (["trace", "long.adb", "empty", "100000"], "stdout", CANNOT_WRITE),
-    (["trace", "--vcd", "long.adb", "empty", "100000"], "stdout", CANNOT_WRITE),
-    (["trace", "--vcd", "--time", "long.adb", "empty", "100000"], "stdout", CANNOT_WRITE),
-    (["trace", "--svg", "long.adb", "empty", "100000"], "stdout", CANNOT_WRITE),
-    (["run", "long.img", "empty", "100000"], "stdout", CANNOT_WRITE),
-    (["list", "every.img"], "stdout", CANNOT_WRITE),
-    (["search", "long.adb", "many", "20000", "100000", "line", "n"], "stdout", CANNOT_WRITE),
-    (["format", "nulls.adb"], "stdout", CANNOT_WRITE),
-    (["check", "faults.adb"], "stderr", (b"", 1)),
+    (["go", "long.adb", "empty", "100000"], "stdout"),
+    (["simulate", "long.adb"], "stdout"),
+    (["trace", "long.adb", "empty", "100000"], "stdout"),
+    (["trace", "--vcd", "long.adb", "empty", "100000"], "stdout"),
+    (["trace", "--vcd", "--time", "long.adb", "empty", "100000"], "stdout"),
+    (["trace", "--chart", "full.adb", "empty", "100000"], "stdout"),
+    (["trace", "--svg", "long.adb", "empty", "100000"], "stdout"),
+    (["measure", "full.adb", "empty", "100000"], "stdout"),
+    (["measure", "--tsv", "full.adb", "empty", "100000"], "stdout"),
+    (["run", "long.img", "empty", "100000"], "stdout"),
+    (["list", "every.img"], "stdout"),
+    (["search", "long.adb", "many", "20000", "100000", "line", "n"], "stdout"),
+    (["format", "nulls.adb"], "stdout"),
+    (["check", "faults.adb"], "stderr"),
 ]
 
 
@@ -96,7 +101,8 @@ class Call:
                 self.expect(left == self.ample and number > 1, number, how, left)
                 return number - 1
             is_beginning = self.ample[0].startswith(left[0]) and len(written) <= len(left[0]) < len(self.ample[0])
-            self.expect(is_beginning and left[1:] == self.failed and (number > 1 or not left[0]), number, how, left)
+            failed = SILENT if how == UNREAD else self.failed
+            self.expect(is_beginning and left[1:] == failed and (number > 1 or not left[0]), number, how, left)
             written = left[0]
         self.expect(False, MOST, how, left)
         return MOST
@@ -114,7 +120,7 @@ class Call:
         run = subprocess.run([program, *self.words], cwd=folder, stdout=writer, stderr=subprocess.PIPE, check=False)
         os.close(writer)
         self.calls += 1
-        self.expect((run.stderr, run.returncode) == self.failed, "any", "unread", (b"", run.stderr, run.returncode))
+        self.expect((run.stderr, run.returncode) == SILENT, "any", "unread", (b"", run.stderr, run.returncode))
 
 
 def write(folder, name, data):
@@ -151,13 +157,16 @@ def calls_of_commands(program, folder):
     write(folder, "choices", b"0 1 50|90\n8000 1 70|-\n")
     words = [
         ["trace", "tank.adb", "tank.schedule", "60"],
+        ["trace", "tank.adb", "tank.schedule", "60", "--until", "9000"],
         ["trace", "--vcd", "tank.adb", "tank.schedule", "60"],
         ["trace", "--vcd", "--time", "tank.adb", "tank.schedule", "60"],
         ["trace", "--chart", "tank.adb", "tank.schedule", "60"],
         ["trace", "--svg", "tank.adb", "tank.schedule", "60"],
         ["measure", "tank.adb", "tank.schedule", "60"],
+        ["measure", "--tsv", "tank.adb", "tank.schedule", "60"],
         ["search", "tank.adb", "choices", "20000", "1000"],
         ["search", "tank.adb", "choices", "20000", "1000", "line", "alarm"],
+        ["search", "--quiet", "tank.adb", "choices", "20000", "1000", "waits", "--part", "1/2"],
         ["explain", "6", "tank.adb"],
         ["format", "tank.adb"],
         ["manual"],
@@ -186,17 +195,18 @@ def first_line(program, folder, words, stream):
 
 def first_lines(program, folder):
     """How many calls whose reader goes after the first line there are, and what is wrong of them."""
-    for name, data in (("long.adb", LONG), ("faults.adb", FAULTS), ("nulls.adb", b"null;\n" * PIPE), ("many", b"0..4095/1 1 5\n")):
+    full = full_programs.nested()[0].encode()
+    for name, data in (("long.adb", LONG), ("full.adb", full), ("faults.adb", FAULTS), ("nulls.adb", b"null;\n" * PIPE), ("many", b"0..4095/1 1 5\n")):
         write(folder, name, data)
     subprocess.run([program, "compile", "long.adb", "long.img"], cwd=folder, check=True)
     images = os.path.join(os.path.dirname(os.path.abspath(__file__)), "images.py")
     subprocess.run([sys.executable, images, "large", "every.img", "2000"], cwd=folder, check=True)
     wrong = []
-    for words, stream, expected in FIRST_LINES:
+    for words, stream in FIRST_LINES:
         whole = subprocess.run([program, *words], cwd=folder, capture_output=True, check=False)
         left = first_line(program, folder, words, stream)
-        if left != expected or len(getattr(whole, stream)) < 2 * PIPE:
-            wrong.append(f"{' '.join(words)}: the reader goes after the first line: {left} where {expected} is expected")
+        if left != SILENT or len(getattr(whole, stream)) < 2 * PIPE:
+            wrong.append(f"{' '.join(words)}: the reader goes after the first line: {left} where {SILENT} is expected")
     return len(FIRST_LINES), wrong
 
 

@@ -1,6 +1,6 @@
 #!/usr/bin/env python3
-"""Runs programs with as many tasks, protected objects and subprograms as there may be at once (docs/LANGUAGE.md, "Limits"), by `go`, by `compile` and `run`, by `simulate`,
-`trace`, `check` and `search`, and with exclusion after each of the first 3,000 steps.
+"""Runs programs with as many tasks, protected objects and subprograms as there may be at once (docs/LANGUAGE.md, "Limits"), one of them with as many frames of each task,
+words and lines of a schedule, too, by each command that takes a source, by `run` and `list`, and with exclusion after each of the first 3,000 steps.
 
     full_programs.py PROGRAM WATCHER SCRATCH
 """
@@ -8,17 +8,20 @@ import os
 import re
 import subprocess
 import sys
+from xml.etree import ElementTree
 
 sys.dont_write_bytecode = True
-from shared import lines_of_trace  # noqa: E402 (no file of it is to be kept)
+import listing  # noqa: E402 (no file of it is to be kept)
+from shared import lines_of_trace  # noqa: E402
 
 TASKS = OBJECTS = 64
-SUBPROGRAMS = 128
+SUBPROGRAMS, FRAMES, WORDS, LINES = 128, 128, 8_192, 4_096
 # Those of an image: a task's body, and main's, is one too.
 IMAGE_SUBPROGRAMS = SUBPROGRAMS + TASKS + 1
 LIMIT = 1_000_000
 # Steps after which exclusion is looked at, where there are as many: each look goes over all tasks and objects.
 WATCHED = 3_000
+SVG = "{http://www.w3.org/2000/svg}svg"
 
 FRAME = """pragma Profile (Ravenscar);
 with Ada.Real_Time; use Ada.Real_Time;
@@ -96,12 +99,43 @@ def served():
     return program_of(declarations, bodies), [f"0 T{OBJECTS} x {OBJECTS}", *(f"1 T{n} x {n * 10}" for n in opened), "ended at 1"], IMAGE_SUBPROGRAMS
 
 
+def everything():
+    """All tasks and main sleep in a procedure that has called itself, each until a time of its own. Who wakes calls the first object, which calls the second one, and so
+    on up to the last one, in the last frame that there may be, where one more is refused. There the value of the schedule's last line up to now is added up. The
+    objects and the package have as many words as there may be."""
+    numbers = range(1, OBJECTS + 1)
+    each, large = 63, 1_024
+    rest = WORDS - OBJECTS * each - 4 * large - 1
+    declarations = [f"type {name} is array (1 .. {length}) of Integer;" for name, length in (("Words", each), ("Large", large), ("Rest", rest))]
+    declarations += [*(f"L{n} : Large;" for n in range(1, 5)), "Few : Rest;", "Sum : Integer := 0;", "procedure More;", "procedure Deep (Left : Integer; Id : Integer);"]
+    declarations += [f"protected P{n} with Priority => 20 is procedure Go (N : Integer); private W : Words; end P{n};" for n in numbers]
+    declarations += [f"task T{n} with Priority => 5;" for n in range(1, TASKS + 1)]
+    last = f"Sum := Sum + Read (1); W ({each}) := N; begin More; exception when Storage_Error => Sum := Sum + 1; end;"
+    bodies = ["procedure More is begin Sum := 0; end More;"]
+    bodies += [f"protected body P{n} is procedure Go (N : Integer) is begin {f'P{n + 1}.Go (N);' if n < OBJECTS else last} end Go; end P{n};" for n in numbers]
+    deep = f"if Left > 0 then Deep (Left - 1, Id); else delay until Clock + Microseconds (100 * ({TASKS + 1} - Id)); P1.Go (Id); end if;"
+    bodies.append(f"procedure Deep (Left : Integer; Id : Integer) is begin {deep} end Deep;")
+    first = FRAMES - OBJECTS - 2
+    bodies += [f'task body T{n} is begin Deep ({first}, {n}); Put ("sum", Sum); L1 ({n}) := Sum; Few ({rest}) := L1 ({n}); end T{n};' for n in range(1, TASKS + 1)]
+    bodies.append(f'procedure Run is begin Deep ({first - 1}, 0); Put ("sum", Sum); L4 ({large}) := Sum; end Run;')
+    lines, total = [], 0
+    for n in range(TASKS, -1, -1):
+        time = 100 * (TASKS + 1 - n)
+        total += min(time, LINES - 1) + 1
+        lines.append(f"{time} {f'T{n}' if n else 'MAIN'} sum {total}")
+    return program_of(declarations, bodies), [*lines, f"ended at {100 * (TASKS + 1)}"], OBJECTS + 3 + TASKS + 1
+
+
 PROGRAMS = [
     ("tasks of one priority below main's", turns("", lambda tasks: ["0 MAIN n 1", *tasks, "ended at 0"])),
     ("tasks of main's priority", turns(" with Priority => 5", lambda tasks: [*tasks, "0 MAIN n 1", "ended at 0"])),
     ("objects that are open at once, and sleepers", nested()),
     ("callers that wait at entries", served()),
+    ("all frames, words and lines", everything()),
 ]
+SCHEDULE = "".join(f"{time} 1 {time}\n" for time in range(LINES))
+CHOICES = f"0..{LINES - 1}/1 1 5\n"
+UNTIL = str(LINES)
 
 
 def called(words):
@@ -109,23 +143,52 @@ def called(words):
     return run.returncode, run.stdout, run.stderr
 
 
-def wrong(program, watcher, scratch, text, lines, subprograms):
-    """What isn't as it should be of a program."""
-    source, image = os.path.join(scratch, "full.adb"), os.path.join(scratch, "full.img")
-    with open(source, "w", encoding="utf-8") as file:
-        file.write(text)
+class Scratch:
+    """A folder with the source of a program, the longest schedule and the largest set of schedules, and what the program makes of them."""
+
+    def __init__(self, program, folder, text):
+        self.program, self.folder = program, folder
+        self.source, self.schedule, self.choices = (self.write(*file) for file in (("full.adb", text), ("input", SCHEDULE), ("choices", CHOICES)))
+        self.image = self.path("full.img")
+
+    def path(self, name):
+        return os.path.join(self.folder, name)
+
+    def write(self, name, text):
+        with open(self.path(name), "w", encoding="utf-8") as file:
+            file.write(text)
+        return self.path(name)
+
+    def call(self, *words):
+        return called([self.program, *words])
+
+    def run_by(self, *words):
+        """What a command leaves of the whole run of the source."""
+        return self.call(*words, self.source, self.schedule, str(LIMIT))
+
+
+def wrong(program, watcher, folder, text, lines, subprograms):
+    """What is done with a program, what comes of it, and what should."""
+    scratch, ended = Scratch(program, folder, text), lines[-1]
     expected = 0, "".join(line + "\n" for line in lines), ""
-    yield "go", called([program, "go", source, os.devnull, str(LIMIT)]), expected
-    yield "compile", called([program, "compile", source, image]), (0, "", "")
-    yield "run", called([program, "run", image, os.devnull, str(LIMIT)]), expected
-    yield "simulate", called([program, "simulate", source, os.devnull, str(LIMIT)]), expected
-    yield "check", called([program, "check", source]), (0, "", "")
-    status, out, err = called([program, "trace", source, os.devnull, str(LIMIT)])
+    yield "go", scratch.run_by("go"), expected
+    yield "compile", scratch.call("compile", scratch.source, scratch.image), (0, "", "")
+    yield "run", scratch.call("run", scratch.image, scratch.schedule, str(LIMIT)), expected
+    with open(scratch.image, "rb") as file:
+        data = file.read()
+    yield "subprograms", int.from_bytes(data[8:10], "big"), subprograms
+    yield "list", scratch.call("list", scratch.image), (0, "".join(f"{line}\n" for line in listing.listing(data)), "")
+    yield "simulate", scratch.run_by("simulate"), expected
+    yield "check", scratch.call("check", scratch.source), (0, "", "")
+    status, out, err = scratch.run_by("trace")
     yield "trace", (status, lines_of_trace(out), err), expected
-    yield "search", called([program, "search", source, os.devnull, "1", str(LIMIT)]), (0, "none of 1 schedules, 0 worlds\n", "")
-    with open(image, "rb") as file:
-        yield "subprograms", int.from_bytes(file.read()[8:10], "big"), subprograms
-    status, out, err = called([watcher, image, os.devnull, str(WATCHED)])
+    for words, last in (("trace --vcd", "$end"), ("trace --vcd --time", "$end"), ("trace --chart", ended), ("measure", ended), ("measure --tsv", ended)):
+        status, out, err = scratch.run_by(*words.split())
+        yield words, (status, out.splitlines()[-1:], err), (0, [last], "")
+    status, out, err = scratch.run_by("trace", "--svg")
+    yield "trace --svg", (status, ElementTree.fromstring(out).tag, err), (0, SVG, "")
+    yield "search", scratch.call("search", scratch.source, scratch.choices, UNTIL, str(LIMIT))[::2], (0, "")
+    status, out, err = called([watcher, scratch.image, os.devnull, str(WATCHED)])
     yield "exclusion", (status, bool(re.fullmatch(r"held after \d+ steps\n", out)), err), (0, True, "")
 
 

@@ -65,11 +65,11 @@ class Image:
         self.labels = [self.text() for _ in range(labels)]
         self.words = self.take(f"{words}q")
         self.objects = [self.object() for _ in range(objects)]
-        self.subprograms = [self.row("B6H", "kind owner end params results local stack") for _ in range(subprograms)]
+        self.subprograms = self.rows_of(subprograms, "B6H", "kind owner end params results local stack")
         self.tasks = [self.task() for _ in range(tasks)]
-        self.rows = [self.row("4H", "start end exception target") for _ in range(rows)]
-        self.attachments = [self.row("BH", "channel subprogram") for _ in range(attachments)]
-        self.instructions = [self.row("BHHq", "opcode depth a k") for _ in range(instructions)]
+        self.rows = self.rows_of(rows, "4H", "start end exception target")
+        self.attachments = self.rows_of(attachments, "BH", "channel subprogram")
+        self.instructions = self.rows_of(instructions, "BHHq", "opcode depth a k")
 
     def take(self, form):
         size = struct.calcsize(">" + form)
@@ -78,9 +78,17 @@ class Image:
         self.end += size
         return struct.unpack_from(">" + form, self.data, self.end - size)
 
+    def rows_of(self, count, form, names):
+        """So many rows of this form, with these names of their fields."""
+        layout, fields, at = struct.Struct(">" + form), names.split(), self.end
+        self.end += count * layout.size
+        if len(self.data) < self.end:
+            raise EndsEarly
+        values = layout.iter_unpack(self.data[at : self.end])
+        return [Row(at + number * layout.size, **dict(zip(fields, row))) for number, row in enumerate(values)]
+
     def row(self, form, names):
-        at = self.end
-        return Row(at, **dict(zip(names.split(), self.take(form))))
+        return self.rows_of(1, form, names)[0]
 
     def text(self):
         at = self.end

@@ -42,6 +42,8 @@ COMMANDS = [
     ("source", ["trace", FILE, "lines", "100000"]),
     ("lines", ["trace", "source", FILE, "100000"]),
     ("source", ["trace", "--vcd", FILE, "lines", "100000"]),
+    ("source", ["trace", "--vcd", "--time", FILE, "lines", "100000"]),
+    ("source", ["trace", "--chart", FILE, "lines", "100000"]),
     ("source", ["trace", "--svg", FILE, "lines", "100000"]),
     ("source", ["measure", FILE, "lines", "100000"]),
     ("source", ["search", FILE, "choices", "20000", "1000"]),

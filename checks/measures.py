@@ -10,12 +10,12 @@ some of them, NAME.measure. Each source is measured again up to the half of its 
     measures.py --of PROGRAM SOURCE [SCHEDULE]      writes the table for a source, by the reference, whose image the program makes
 """
 import os
-import subprocess
 import sys
 import tempfile
 from bisect import bisect_right
 
 sys.path.insert(0, os.path.dirname(os.path.abspath(__file__)))
+from calling import called  # noqa: E402
 from traces import ALL_STEPS, STEPS, examples_of, objects_of, read, rows_of, world_of, write  # noqa: E402
 
 sys.path.insert(0, os.path.join(os.path.dirname(os.path.abspath(__file__)), "..", "bench"))
@@ -74,9 +74,9 @@ class Measures:
 
     def __init__(self, world, limit, until=None):
         self.world, self.instants = world, []
-        self.actors = [Actor() for _ in world.everyone()]
+        self.actors = [Actor() for _ in world.everyone]
         self.objects = [[0, 0] for _ in world.objects]
-        self.usages = [[Usage() for _ in world.objects] for _ in world.everyone()]
+        self.usages = [[Usage() for _ in world.objects] for _ in world.everyone]
         for task in range(len(world.tasks)):
             self.actors[task].jobs.append((0, 0))
         self.handler_begins(0)
@@ -114,25 +114,25 @@ class Measures:
         for o in inside:
             self.usages[ran][o].actions[-1] += 1
         self.actors[ran].late += [int(row.split()[-1]) for row in world.asking if row.startswith("is late by ")]
-        self.called(ran, set() if over else world.inside(ran), inside)
-        if later or over or world.place(ran)[0] in ("asleep", "queued", "finished"):
+        after = world.places()
+        self.called(ran, set() if over else world.inside(ran), inside, after[ran])
+        if later or over or after[ran][0] in ("asleep", "queued", "finished"):
             self.actors[ran].over.append(number)
-        for task, (before, place) in enumerate(zip(places, world.places())):
+        for task, (before, place) in enumerate(zip(places[: len(world.tasks)], after)):
             if place[0] in HERE and (before[0] in ("asleep", "served") or (later and before[0] == "running")):
                 self.actors[task].jobs.append((world.now, number))
                 self.actors[task].waits += [now - world.called_at[task]] if before[0] == "served" else []
-        if ran < len(world.tasks) and not later and world.place(ran)[0] == "ready" and world.active(ran) < world.active(world.running):
+        if ran < len(world.tasks) and not later and after[ran][0] == "ready" and world.active(ran) < world.active(world.running):
             self.actors[ran].preempted += 1
         if later or over or world.running != ran:
             self.handler_begins(number)
         return True
 
-    def called(self, ran, now, before):
+    def called(self, ran, now, before, place):
         for o in now - before:
             self.objects[o][0] += 1
             self.usages[ran][o].calls += 1
             self.usages[ran][o].actions.append(0)
-        place = self.world.place(ran)
         if place[0] == "queued":
             self.objects[place[1]][0] += 1
             self.objects[place[1]][1] += 1
@@ -140,18 +140,18 @@ class Measures:
 
     def blocking(self, priority):
         """The most steps of one action of a task or handler of a lower base priority, at an object whose ceiling is at or above this priority."""
-        lower = [usages for task, usages in zip(self.world.everyone(), self.usages) if task.base < priority]
+        lower = [usages for task, usages in zip(self.world.everyone, self.usages) if task.base < priority]
         return max((usages[o].longest() for usages in lower for o, (ceiling, *_) in enumerate(self.world.objects) if ceiling >= priority), default=0)
 
     def rows(self):
         """Tables: their headings, and rows of words: what they are about, their numbers, and the names."""
         world = self.world
-        shown = [(task, actor) for number, (task, actor) in enumerate(zip(world.everyone(), self.actors)) if number < len(world.tasks) or actor.jobs]
+        shown = [(task, actor) for number, (task, actor) in enumerate(zip(world.everyone, self.actors)) if number < len(world.tasks) or actor.jobs]
         yield WORK_HEADING, [("task", [task.base, *actor.work(self.blocking(task.base))], [task.name]) for task, actor in shown]
         yield WAITS_HEADING, [("wait", actor.waiting(), [task.name]) for task, actor in shown]
         yield FRAMES_HEADING, [("frames", [max(actor.frames, default=int(task in world.tasks)), max(actor.words, default=0)], [task.name]) for task, actor in shown]
         yield OBJECTS_HEADING, [("object", [world.objects[o][0], *numbers], [world.object(o)]) for o, numbers in enumerate(self.objects)]
-        used = [(task, o, usage) for task, usages in zip(world.everyone(), self.usages) for o, usage in enumerate(usages) if usage.calls or usage.longest()]
+        used = [(task, o, usage) for task, usages in zip(world.everyone, self.usages) for o, usage in enumerate(usages) if usage.calls or usage.longest()]
         yield USAGES_HEADING, [("inside", [usage.calls, usage.longest()], [task.name, world.object(o)]) for task, o, usage in used]
         most = max((steps for steps, _ in self.instants), default=0)
         yield INSTANTS_HEADING, [("instant", [most], [next((time for steps, time in self.instants if steps == most), 0)])]
@@ -170,13 +170,13 @@ class Comparer:
 
     def __init__(self, program, folder):
         self.program, self.folder, self.texts, self.wrong = os.path.abspath(program), folder, 0, []
-        os.makedirs(folder)
+        os.makedirs(folder, exist_ok=True)
 
     def world_of(self, source, schedule):
         return world_of(self.program, self.folder, source, schedule, objects_of(source))
 
     def compare(self, name, expected, *words):
-        run = subprocess.run([self.program, "measure", *words], cwd=self.folder, capture_output=True, check=False)
+        run = called([self.program, "measure", *words], self.folder)
         self.texts += 1
         if (run.stdout.decode(), run.stderr, run.returncode) != (expected, b"", STATUSES[expected.splitlines()[-1].split()[0]]):
             first = next((pair for pair in zip(run.stdout.decode().splitlines(), expected.splitlines()) if pair[0] != pair[1]), None)

@@ -139,8 +139,14 @@ def calls_of_commands(program, folder):
         ("trace --chart", ["trace", "--chart", "main.adb", "input", "1000"], files, None),
         ("trace --svg", ["trace", "--svg", "main.adb", "input", "1000"], files, None),
         ("measure", ["measure", "main.adb", "input", "1000"], files, None),
+        ("measure --tsv", ["measure", "--tsv", "main.adb", "input", "1000"], files, None),
+        ("measure up to a time", ["measure", "main.adb", "input", "1000", "--until", "9000"], files, None),
         ("search that finds none", ["search", "main.adb", "choices", "20000", "1000"], {"main.adb": tank, "choices": choices}, "the answer"),
         ("search that finds a line", ["search", "main.adb", "choices", "20000", "1000", "line", "alarm"], {"main.adb": tank, "choices": choices}, None),
+        ("search of a part", ["search", "main.adb", "choices", "20000", "1000", "line", "alarm", "--part", "2/2"], {"main.adb": tank, "choices": choices}, None),
+        ("explain of a number", ["explain", "52"], {}, None),
+        ("manual", ["manual"], {}, None),
+        ("version", ["version"], {}, None),
         ("explain of a text", ["explain", "12", "main.adb"], {"main.adb": faulty}, None),
     ]
     return [ample_call(program, folder, *call) for call in calls]

@@ -13,10 +13,11 @@ import math
 import os
 import random
 import re
-import subprocess
 import sys
 from collections import Counter
 from concurrent.futures import ThreadPoolExecutor
+
+from calling import called
 
 MOST_SCHEDULES = 64
 ENOUGH = 400_000
@@ -278,6 +279,10 @@ class Refused(Exception):
     """A fault of a set of schedules, with its number and its line."""
 
 
+class StepLimit(Exception):
+    """A run has taken all its steps before the end of the search."""
+
+
 def alternatives_of(text):
     """The alternatives of a line as ranges: None for no line, or the first and the last value."""
     ranges = []
@@ -340,7 +345,7 @@ def schedules_of(slots):
 
 
 def call(program, *words):
-    done = subprocess.run([program, *words], stdout=subprocess.PIPE, stderr=subprocess.PIPE, timeout=SECONDS, check=False)
+    done = called([program, *words], seconds=SECONDS)
     return done.returncode, done.stdout.decode("latin-1"), done.stderr.decode("latin-1")
 
 
@@ -349,8 +354,8 @@ def shown(run, until, wanted):
     *lines, last = run.splitlines()
     ending, time = re.fullmatch(r"(.*) at (\d+)", last).groups()
     kind = "unhandled" if ending.startswith("unhandled ") else "waits" if ending == "waits forever" else ending
-    if kind == "step limit":
-        assert int(time) > until, "the limit of the runs is too low"
+    if kind == "step limit" and int(time) <= until:
+        raise StepLimit
     if wanted[:1] == ["line"]:
         for line in lines:
             if line.split()[2] == wanted[1] and int(line.split()[0]) <= until:
@@ -392,15 +397,24 @@ def is_answer(got, status, told):
     return got[0] == status and not got[2] and re.fullmatch(re.escape(told).replace("WORLDS", "[0-9]+"), got[1]) is not None
 
 
-def answer(program, source, text, until, wanted, file):
+def by_go(program, source, file, steps=ENOUGH):
+    """How the run on a schedule is taken: by `go`, from this file."""
+
+    def run_of(schedule):
+        with open(file, "w", encoding="ascii") as out:
+            out.write(schedule)
+        status, run, told = call(program, "go", source, file, str(steps))
+        assert status in (0, UNHANDLED, WAITS, TOO_LONG), (status, told)
+        return run
+
+    return run_of
+
+
+def answer(run_of, text, until, wanted):
     """What a search answers, by the runs of all schedules."""
     schedules = list(schedules_of(slots_of(text, until)))
     for schedule in schedules:
-        with open(file, "w", encoding="ascii") as out:
-            out.write(schedule)
-        status, run, told = call(program, "go", source, file, str(ENOUGH))
-        assert status in (0, UNHANDLED, WAITS, TOO_LONG), (status, told)
-        found = shown(run, until, wanted)
+        found = shown(run_of(schedule), until, wanted)
         if found:
             return found[0], f"{schedule}found: {found[1]}\n"
     return 0, f"none of {len(schedules)} schedules, WORLDS worlds\n"
@@ -475,7 +489,7 @@ def main():
         file = os.path.join(scratch, f"{number}.choices")
         with open(file, "w", encoding="ascii") as out:
             out.write(text)
-        status, told = answer(program, source, text, until, wanted, os.path.join(scratch, f"{number}.schedule"))
+        status, told = answer(by_go(program, source, os.path.join(scratch, f"{number}.schedule")), text, until, wanted)
         got = call(program, "search", source, file, str(until), str(ENOUGH), *wanted)
         answers[status] += 1
         if not is_answer(got, status, told):

@@ -13,6 +13,7 @@ import subprocess
 import sys
 
 import rows
+from calling import called
 
 sys.path.insert(0, os.path.join(os.path.dirname(os.path.abspath(__file__)), "..", "bench"))
 from reference import STATUSES, World  # noqa: E402
@@ -96,10 +97,10 @@ class Comparer:
     def __init__(self, program, folder):
         self.program, self.folder = os.path.abspath(program), folder
         self.rows, self.wrong = 0, []
-        os.makedirs(folder)
+        os.makedirs(folder, exist_ok=True)
 
     def call(self, *words):
-        return subprocess.run([self.program, *words], cwd=self.folder, capture_output=True, check=False)
+        return called([self.program, *words], self.folder)
 
     def write(self, source, schedule):
         for file, content in (("main.adb", source), ("input", schedule)):

@@ -11,12 +11,12 @@ comes back has the same values.
 import os
 import re
 import shutil
-import subprocess
 import sys
 
-from traces import ALL_STEPS, REFUSED, STEPS, examples_of, world_of
 import full_programs
 import rows
+from calling import called
+from traces import ALL_STEPS, REFUSED, STEPS, examples_of, world_of
 
 sys.path.insert(0, os.path.join(os.path.dirname(os.path.abspath(__file__)), "..", "bench"))
 from reference import STATUSES, World  # noqa: E402
@@ -143,18 +143,30 @@ def values_of(world):
     """Their values."""
     left = world.running if world.outcome and world.outcome.startswith("unhandled") else None
     values = [world.now]
-    for number in range(len(world.tasks)):
-        values += [LEFT if number == left else STATES[world.place(number)[0]], world.active(number)]
-    entered = [world.inside(number) for number in range(len(world.everyone()))]
+    for number, place in enumerate(world.places()[: len(world.tasks)]):
+        values += [LEFT if number == left else STATES[place[0]], world.active(number)]
+    inside = [set() for _ in world.objects]
+    for number, task in enumerate(world.everyone):
+        for _, o, _ in task.actions:
+            inside[o].add(number)
     for o, queued in enumerate(world.queued):
-        inside = [number for number, objects in enumerate(entered) if o in objects]
-        need(len(inside) <= 1, f"tasks {inside} are inside object {o}")
-        values += [min(inside[0], len(world.tasks)) + 1 if inside else 0, 0 if queued is None else queued + 1]
+        need(len(inside[o]) <= 1, f"tasks {inside[o]} are inside object {o}")
+        values += [min(*inside[o], len(world.tasks)) + 1 if inside[o] else 0, 0 if queued is None else queued + 1]
     return values
 
 
 class Watched(World):
-    """A world that keeps what its signals have where its clock moves on from a time: nobody runs or is ready, and those due sleep still."""
+    """A world that keeps what its signals have at the start and after each step, and where its clock moves on from a time: nobody runs or is ready, and those
+    due sleep still."""
+
+    def __init__(self, *given):
+        self.time, self.instants, self.seen = None, [], []
+        super().__init__(*given)
+        self.seen.append(values_of(self))
+
+    def step(self):
+        super().step()
+        self.seen.append(values_of(self))
 
     @property
     def now(self):
@@ -162,11 +174,16 @@ class Watched(World):
 
     @now.setter
     def now(self, time):
-        if not hasattr(self, "time"):
-            self.instants = []
-        elif time > self.time:
+        if self.time is not None and time > self.time:
             self.instants.append((self.time, values_of(self)))
         self.time = time
+
+    def watched(self, until):
+        """The values after the steps of a run up to a time, those at the end of each instant, and its last line. A step that passes the time is none of them."""
+        past = -1 if self.is_past(until) else None
+        seen = self.seen[:past]
+        end = seen[-1][0]
+        return seen, [*self.instants[:past], (end, seen[-1])], self.last_line(end, until)
 
 
 def differing(told, values):
@@ -174,51 +191,31 @@ def differing(told, values):
     return {signal: value for signal, value in enumerate(values) if value != told[signal]}
 
 
-def declared(dump, world, objects, timescale):
-    need(dump.timescale == timescale, f"timescale {dump.timescale}")
+def declared(dump, world, objects):
     need(dump.signals == signals_of(world, objects), f"signals {dump.signals}")
     need(list(dump.codes) == [code_of(signal) for signal in range(len(dump.signals))], f"codes {list(dump.codes)}")
 
 
-def compare_times(dump, world, objects, limit, until):
-    """Each value at each instant is the one that the reference has at its end, nothing else is told to change, and all instants are there, and no others. The
-    first word of the last line is returned."""
-    declared(dump, world, objects, "1 us")
-    steps, now, values = 0, world.now, values_of(world)
-    while steps < limit and world.outcome is None and not world.is_past(until):
-        now, values = world.now, values_of(world)
-        world.step()
-        steps += 1
-    instants = [*world.instants[:-1], (now, values)] if world.is_past(until) else [*world.instants, (world.now, values_of(world))]
+def compare_times(dump, instants):
+    """Each value at each instant is the one that the reference has at its end, nothing else is told to change, and all instants are there, and no others."""
+    need(dump.timescale == "1 us", f"timescale {dump.timescale}")
     told, changes = [None] * len(dump.signals), {}
     for time, values in instants:
         changes[time], told = differing(told, values), values
     wrong = [time for time in {**changes, **dump.changes} if changes.get(time) != dump.changes.get(time)]
     need(not wrong, f"at time {wrong[:1]}: the reference changes {[changes.get(time) for time in wrong[:1]]}")
     need(list(dump.changes) == list(changes) and dump.end == instants[-1][0], f"the dump ends at {dump.end}")
-    need(dump.comments == [world.last_line(now, until)], f"comments {dump.comments}")
-    return world.last_line(now, until).split()[0]
 
 
-def compare(dump, world, objects, limit, until):
-    """Each value at each tick is the reference's, nothing else is told to change, and the dump ends after the last step: the last one before the clock passes the
-    time, if one is given. The first word of the last line is returned."""
-    declared(dump, world, objects, "1 ns")
-    told, steps, now = [None] * len(dump.signals), 0, world.now
-    while not world.is_past(until):
-        values = values_of(world)
+def compare(dump, seen):
+    """Each value at each tick is the reference's, nothing else is told to change, and the dump ends after the last step."""
+    need(dump.timescale == "1 ns", f"timescale {dump.timescale}")
+    told = [None] * len(dump.signals)
+    for step, values in enumerate(seen):
         changes = differing(told, values)
-        need(dump.changes.pop(steps, {}) == changes, f"at step {steps}: the reference changes {changes}")
+        need(dump.changes.pop(step, {}) == changes, f"at step {step}: the reference changes {changes}")
         told = values
-        if steps == limit or world.outcome is not None:
-            break
-        now = world.now
-        world.step()
-        steps += 1
-    steps -= world.is_past(until)
-    need(dump.changes == {steps + 1: {}} and dump.end == steps + 1, f"the dump ends at {dump.end}, the run behind step {steps}")
-    need(dump.comments == [world.last_line(now, until)], f"comments {dump.comments}")
-    return world.last_line(now, until).split()[0]
+    need(dump.changes == {len(seen): {}} and dump.end == len(seen), f"the dump ends at {dump.end}, the run behind step {len(seen) - 1}")
 
 
 def sources_of(folder):
@@ -238,34 +235,41 @@ class Checker:
     def __init__(self, program, folder):
         self.program, self.folder = os.path.abspath(program), folder
         self.ticks, self.converted, self.wrong = 0, 0, []
-        os.makedirs(folder)
+        os.makedirs(folder, exist_ok=True)
 
     def call(self, *words):
-        return subprocess.run(words, cwd=self.folder, capture_output=True, check=False)
+        return called(words, self.folder)
 
     def path(self, name):
         return os.path.join(self.folder, name)
 
     def check(self, name, source, schedule, limit, until=None):
-        """The dumps over steps and over virtual time."""
+        """The dumps of a source over steps and over virtual time, which are returned."""
         for file, content in (("main.adb", source), ("input", schedule)):
             with open(self.path(file), "wb") as written:
                 written.write(content)
-        steps = self.check_dump(name, source, schedule, limit, until, World, compare)
-        return steps, self.check_dump(f"{name} over time", source, schedule, limit, until, Watched, compare_times, "--time")
+        world = world_of(self.program, self.folder, source, schedule, kind=Watched)
+        world.run(limit, until)
+        return self.check_run(name, source, world, limit, until)
 
-    def check_dump(self, name, source, schedule, limit, until, kind, by, *options):
-        world = world_of(self.program, self.folder, source, schedule, kind=kind)
+    def check_run(self, name, source, world, limit, until=None):
+        """The dumps of the source that was written, beside a world that has run so far."""
+        seen, instants, last = world.watched(until)
         timed = [] if until is None else ["--until", str(until)]
-        run = self.call(self.program, "trace", "--vcd", *options, "main.adb", "input", str(limit), *timed)
-        try:
-            dump = Dump(run.stdout.decode("ascii"))
-            self.ticks += len(dump.changes)
-            status = STATUSES[by(dump, world, protected_names(source), limit, until)]
-            need((run.stderr, run.returncode) == (b"", status), f"status {run.returncode}, {run.stderr!r}")
-        except (Wrong, ValueError) as wrong:
-            self.wrong.append(f"{name}: {wrong}")
-        return run.stdout
+        texts = []
+        for options, by, values in (((), compare, seen), (("--time",), compare_times, instants)):
+            run = self.call(self.program, "trace", "--vcd", *options, "main.adb", "input", str(limit), *timed)
+            texts.append(run.stdout)
+            try:
+                dump = Dump(run.stdout.decode("ascii"))
+                self.ticks += len(dump.changes)
+                declared(dump, world, protected_names(source))
+                by(dump, values)
+                need(dump.comments == [last], f"comments {dump.comments}")
+                need((run.stderr, run.returncode) == (b"", STATUSES[last.split()[0]]), f"status {run.returncode}, {run.stderr!r}")
+            except (Wrong, ValueError) as wrong:
+                self.wrong.append(f"{name} {' '.join(options)}: {wrong}")
+        return texts
 
     def convert(self, name, text):
         """The dump as GTKWave's tools read and write it again has the same signals and the same changes."""

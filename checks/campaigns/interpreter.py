@@ -129,6 +129,7 @@ class Run:
 
     def __init__(self, program, schedule, most_statements=200_000):
         self.schedule, self.left = schedule, most_statements
+        self.delivered = 0  # how many lines of the schedule have had their handlers
         self.now, self.lines, self.last = 0, [], None
         self.ready = defaultdict(deque)
         self.sleepers = []  # of (time, actor), in the order in which they began to wait
@@ -152,7 +153,6 @@ class Run:
         main = Actor(program.main.name, self.priority_of(program.main.aspect, PRIORITY))
         main.run = self.body_of_main(main, program.main)
         self.tasks.append((main, program.main.name))
-        self.pending = [line for line in self.schedule if line[1] in self.channels]
 
     def static(self, expression):
         return self.value(Actor("", 0), Frame({}), expression)
@@ -265,7 +265,8 @@ class Run:
         if all(task.is_ended for task, _ in self.tasks):
             self.last = f"ended at {self.now}"
             return
-        times = [time for time, _ in self.sleepers] + [line[0] for line in self.pending[:1]]
+        line = self.next_line()
+        times = [time for time, _ in self.sleepers] + ([line[0]] if line else [])
         if not times:
             self.last = f"waits forever at {self.now}"
             return
@@ -273,8 +274,14 @@ class Run:
         for _, task in [it for it in self.sleepers if it[0] <= self.now]:
             self.ready[task.active].append(task)
         self.sleepers = [it for it in self.sleepers if it[0] > self.now]
-        while self.pending and self.pending[0][0] <= self.now:
-            self.interrupt(self.pending.pop(0)[1])
+        while line and line[0] <= self.now:
+            self.delivered += 1
+            self.interrupt(line[1])
+            line = self.next_line()
+
+    def next_line(self):
+        """Time and channel of the first line that is still to be handled."""
+        return self.schedule.handled_line(tuple(self.channels), self.delivered) if self.channels else None
 
     def interrupt(self, channel):
         """The handler of a channel runs from its start to its end."""
@@ -623,8 +630,7 @@ class Run:
             return in_base(argument * MICROSECONDS[name])
         if argument not in CHANNELS:
             raise constraint_error()
-        values = [line[2] for line in self.schedule if line[1] == argument and line[0] <= self.now]
-        return values[-1] if values else 0
+        return self.schedule.value(argument, self.now)
 
     def attribute(self, frame, expression):
         denoted = self.denoted(frame, expression.name)
@@ -676,13 +682,25 @@ EVALUATE = {
 }
 
 
-def schedule_of(text):
+class Schedule:
     """The lines of a schedule: time, channel and value of each."""
-    return [tuple(map(int, line.split())) for line in text.splitlines()]
+
+    def __init__(self, text):
+        self.lines = [tuple(map(int, line.split())) for line in text.splitlines()]
+
+    def value(self, channel, now):
+        """What is read of a channel at a time."""
+        values = [value for time, number, value in self.lines if number == channel and time <= now]
+        return values[-1] if values else 0
+
+    def handled_line(self, channels, number):
+        """Time and channel of the line with this number among those of channels that have handlers; None after the last one."""
+        lines = [line[:2] for line in self.lines if line[1] in channels]
+        return lines[number] if number < len(lines) else None
 
 
-def run(text, schedule, most_statements=200_000):
-    """The lines of a legal text's run on a schedule, with its last line. Raises TooLong where it takes too many statements."""
-    running = Run(tree.parsed(text), schedule_of(schedule), most_statements)
+def run(program, schedule, most_statements=200_000):
+    """The lines of a legal program's run on a schedule, with its last line. Raises TooLong where it takes too many statements."""
+    running = Run(program, schedule, most_statements)
     last = running.outcome()
     return "".join(f"{line}\n" for line in running.lines + [last])

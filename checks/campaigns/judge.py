@@ -11,6 +11,7 @@ from values import LEAST, GREATEST, MICROSECONDS, OPERATORS, SIGNS, Raised, in_b
 
 MOST_COMPONENTS, MOST_FORMALS, MOST_WORDS, MOST_FRAME, MOST_LABELS = 1024, 8, 8192, 512, 1024
 MOST_SUBPROGRAMS, MOST_TASKS, MOST_OBJECTS, MOST_EXCEPTIONS = 128, 64, 64, 32
+SMALL_TOKENS, SMALL_LEVELS, SMALL_WORDS = 2_000, 16, 64
 COMPOSITE = ("array", "record")
 RELATIONS, LOGICAL = ("=", "/=", "<", "<=", ">", ">="), ("and", "or", "xor", "and then", "or else")
 
@@ -119,6 +120,7 @@ class Judge:
         self.own_types = {}  # of each expression that was met, with it
         self.own = None  # the protected object within whose body it is
         self.words, self.frame = 0, 0  # those of the package, and of the body in which it is, up to here
+        self.with_loops, self.most_with_loops = 0, 0  # those of that body and a word for each loop parameter, and the most of a body
 
     def fault(self, number, at):
         self.faults.add((at, number))
@@ -142,11 +144,16 @@ class Judge:
 
     def takes_in_frame(self, subtype, at):
         before, self.frame = self.frame, self.frame + words_of(subtype)
+        self.adds(words_of(subtype))
         if before <= MOST_FRAME < self.frame:
             self.fault(23, at)
 
+    def adds(self, words):
+        self.with_loops += words
+        self.most_with_loops = max(self.most_with_loops, self.with_loops)
+
     def begins_frame(self, profile=None):
-        self.frame = 0
+        self.frame = self.with_loops = 0
         for _, _, subtype, _, at in profile.formals if profile else []:
             self.takes_in_frame(subtype, at)
 
@@ -203,7 +210,26 @@ class Judge:
             found = self.attribute_of(name, entity)
             if found:
                 return found[1]
+        if name.parts and not self.has_meaning(name):
+            raise Raised("unknown")
         raise NotStatic(name.at)
+
+    def has_meaning(self, name):
+        """Whether each part of a name has a meaning after those before it, as a call that has no value does; faults are reported where the name is judged."""
+        faults, self.faults = self.faults, set()
+        try:
+            return self.is_call(name, self.scope[name.name]) or self.name_type(name) is not BROKEN
+        finally:
+            self.faults = faults
+
+    def is_call(self, name, entity):
+        parts = name.parts
+        if entity.kind == "protected":
+            operation, parts = self.operation_of(name, entity), parts[1:]
+            is_callable = operation not in ("none", None)
+        else:
+            is_callable = entity.kind in ("procedure", "entry", "put")
+        return is_callable and [part.kind for part in parts] in ([], ["arguments"])
 
     def attribute_of(self, name, entity):
         """The type and the value of an attribute; None where it has no meaning."""
@@ -777,7 +803,13 @@ class Judge:
         elif entity.kind == "task":
             self.task_name(name, entity)
         elif not entity.is_broken:
-            self.no_meaning(name)
+            self.judge_no_call(name)
+
+    def judge_no_call(self, name):
+        """A name of what is not called: 12, unless it has a component that isn't there."""
+        self.name_type(name)
+        if not any((part.at, 10) in self.faults for part in name.parts if part.kind == "select"):
+            self.fault(12, name.at)
 
     def judge_called(self, name, entity, parts):
         if len(parts) > 1 or (parts and parts[0].kind != "arguments"):
@@ -850,6 +882,7 @@ class Judge:
         kind = high if low is ANY else low
         if BROKEN not in (low, high) and ANY not in (low, high) and low is not high:
             self.fault(12, statement.high.at)
+        self.adds(1)
         scope = dict(self.scope)
         self.declare(statement.name, statement.name_at, Entity("object", Subtype(INTEGER if kind is ANY else kind), True, is_broken=kind is BROKEN))
         self.judge_loop(statement, context)
@@ -1183,11 +1216,25 @@ def parts_of(expression):
     return []
 
 
-def fault_of(text):
-    """The number and the byte of the first fault of a text, or None."""
+def read(text):
+    """The tree of a text, None where it has none, and the number and the byte of its first fault, or None."""
     try:
         program = tree.parsed(text)
     except tree.Fault as fault:
-        return fault.number, fault.at
+        return None, (fault.number, fault.at)
     faults = Judge(program).judged()
-    return (faults[0][1], faults[0][0]) if faults else None
+    return program, (faults[0][1], faults[0][0]) if faults else None
+
+
+def is_small(text):
+    """Whether a text that has a tree is small (docs/LANGUAGE.md, "Limits"): its code passes no limit."""
+    tokens = tree.tokens_of(text)
+    parser = tree.Parser(tokens)
+    judge = Judge(parser.program())
+    judge.judged_rules()
+    return len(tokens) - 1 <= SMALL_TOKENS and parser.most_levels <= SMALL_LEVELS and judge.most_with_loops <= SMALL_WORDS
+
+
+def fault_of(text):
+    """The number and the byte of the first fault of a text, or None."""
+    return read(text)[1]

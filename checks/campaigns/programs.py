@@ -1,8 +1,10 @@
 """Random legal programs of the whole language, with tasks, protected objects, handlers of interrupts and schedules, by a seed."""
+import itertools
 import random
 from dataclasses import dataclass, field
 
 PREDEFINED = ("Constraint_Error", "Program_Error", "Storage_Error", "Tasking_Error")
+LABELS = ('"a"', '"alarm"', '"raised"')
 
 
 @dataclass(eq=False)
@@ -65,10 +67,10 @@ class Place:
 
 
 class Writer:
-    """Writes one program."""
+    """Writes one program; `reads` is how often its statements ask what is read, an assignment being 5."""
 
-    def __init__(self, seed):
-        self.random = random.Random(seed)
+    def __init__(self, seed, reads):
+        self.random, self.reads = random.Random(seed), reads
         self.count, self.types, self.exceptions = 0, [INTEGER, NATURAL, POSITIVE, BOOLEAN], []
         self.constants, self.variables, self.operations, self.protected, self.left = [], [], [], [], 0
 
@@ -76,7 +78,15 @@ class Writer:
         return self.random.random() < share
 
     def one(self, *choices):
-        return self.random.choice(choices)
+        return choices[int(self.random.random() * len(choices))]
+
+    def in_any_order(self, things):
+        """The things one after the other, each of those that are left as likely as the others."""
+        left = list(things)
+        while left:
+            at = int(self.random.random() * len(left))
+            left[at], left[-1] = left[-1], left[at]
+            yield left.pop()
 
     def fresh(self, letter):
         self.count += 1
@@ -167,8 +177,7 @@ class Writer:
     def named(self, wanted, place, depth, is_writable=False):
         """The name of a variable of this type, or of a part; None where there is none."""
         objects = [it for it in place.objects if it.is_writable or not is_writable]
-        self.random.shuffle(objects)
-        for thing in objects[:8]:
+        for thing in itertools.islice(self.in_any_order(objects), 8):
             names = [name for name, it in self.parts_of(thing, place, depth) if it.is_like(wanted)]
             if names:
                 return self.one(*names)
@@ -309,7 +318,7 @@ class Writer:
         if place.may_wait:
             kinds += ["delay"]
         if not simple:
-            kinds += ["if", "if", "case", "for", "while", "loop", "block"]
+            kinds += ["if", "if", "case", "for", "while", "loop", "block"] + ["read"] * self.reads
         return getattr(self, f"{self.one(*kinds)}_statement")(place)
 
     def deeper(self, place, **changes):
@@ -369,6 +378,15 @@ class Writer:
             lines += ["else", *self.indented(self.statements(self.deeper(place), 2))]
         return [*lines, "end if;"]
 
+    def read_statement(self, place):
+        """What is done, or written, depends on what is read."""
+        channel = self.random.randint(1, 4)
+        if self.chance(0.4):
+            return [f'Put ("{self.one("a", "alarm")}", Read ({channel}));']
+        condition = f"Read ({channel}) {self.relation()} {self.random.randint(0, 9)}"
+        lines = [f"if {condition} then", *self.indented(self.statements(self.deeper(place), 2))]
+        return [*lines, "else", *self.indented(self.statements(self.deeper(place), 2)), "end if;"]
+
     def case_statement(self, place):
         it = self.one(*self.scalars())
         selector = self.named(it, place, 1)
@@ -420,7 +438,10 @@ class Writer:
     def indented(lines, levels=1):
         return [f"{'   ' * levels}{line}" for line in lines]
 
-    def handlers(self, place, share):
+    def handlers(self, place, share, calm=0):
+        """Handlers of a sequence, with this share; with the second one a single one, which raises nothing."""
+        if self.chance(calm):
+            return ["exception", "   when others =>", f'      {self.one("null;", "Put (%s, 1);" % self.one(*LABELS))}']
         if not self.chance(share):
             return []
         inner = self.deeper(place, in_handler=True)
@@ -480,14 +501,14 @@ class Writer:
     def formal_objects(self, operation):
         return [Object(name, it, mode != "in") for name, mode, it in operation.formals]
 
-    def body_lines(self, head, operation, place):
+    def body_lines(self, head, operation, place, calm=0):
         """The text of a body, whose objects and operations are those of the place."""
         if operation.kind == "function":
             expression = self.value(operation.result, place, 3)
             return [f"{head} is", "begin", f"   return {expression};", f"end {operation.name};"]
         declarations = self.locals(place, self.random.randint(0, 2))
         inner = self.statements(place, 4)
-        return [f"{head} is", *self.indented(declarations), "begin", *self.indented(inner), *self.handlers(place, 0.7), f"end {operation.name};"]
+        return [f"{head} is", *self.indented(declarations), "begin", *self.indented(inner), *self.handlers(place, 0.7, calm), f"end {operation.name};"]
 
     def visible(self):
         return self.constants + self.variables
@@ -583,10 +604,11 @@ class Writer:
         inner = self.deeper(place, in_loop=True)
         period = f"{next_} := {next_} + {self.one('Milliseconds', 'Microseconds')} ({self.random.randint(0, 10)});"
         turn = [*self.statements(inner, 4), *([period, f"delay until {next_};"] if self.chance(0.8) else [])]
-        turn = ["begin", *self.indented(turn), *self.handlers(inner, 1), "end;"] if self.chance(0.5) else turn
+        turn = [*self.read_statement(inner), *turn] if self.chance(self.reads / 10) else turn
+        turn = ["begin", *self.indented(turn), *self.handlers(inner, 1, 0.6), "end;"] if self.chance(0.8) else turn
         loop = [f"for {self.fresh('I')} in 1 .. {self.random.randint(1, 5)} loop", *self.indented(turn), "end loop;"]
         body = [*self.statements(place, 1), *loop, *self.statements(place, 2)]
-        lines = [f"task body {name} is", *self.indented(declarations), "begin", *self.indented(body), *self.handlers(place, 0.95), f"end {name};"]
+        lines = [f"task body {name} is", *self.indented(declarations), "begin", *self.indented(body), *self.handlers(place, 0.95, 0.6), f"end {name};"]
         aspect = "" if self.chance(0.1) else f" with Priority => {priority}"
         return f"task {name}{aspect};", lines
 
@@ -618,14 +640,14 @@ class Writer:
             head, lines = self.protected_object(channels) if maker == "protected_object" else getattr(self, maker)()
             declared += head if isinstance(head, list) else [head]
             bodies += lines
-        for _ in range(self.random.randint(0, 4)):
+        for _ in range(self.random.randint(self.reads > 1, 4)):
             head, lines = self.task()
             declared.append(head)
             bodies += lines
         run = Operation("procedure", "Run", [])
         place = Place(self.visible(), list(self.operations), in_procedure=True, may_wait=True)
         self.left = 20
-        bodies += self.body_lines("procedure Run", run, place)
+        bodies += self.body_lines("procedure Run", run, place, 0.6)
         return self.framed([*declared, "procedure Run;"], bodies)
 
     def framed(self, declared, bodies):
@@ -645,7 +667,7 @@ class Writer:
         return "".join(lines)
 
 
-def made_program(seed):
+def made_program(seed, reads=2):
     """The text of a program, and a schedule, by a seed."""
-    writer = Writer(seed)
+    writer = Writer(seed, reads)
     return writer.program(), writer.schedule()

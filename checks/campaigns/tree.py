@@ -358,34 +358,31 @@ class Parser:
     """Reads tokens from left to right: a token is taken only where some derivation has it after those before it."""
 
     def __init__(self, tokens):
-        self.tokens, self.next, self.levels = tokens, 0, 0
-
-    @property
-    def token(self):
-        return self.tokens[self.next]
+        self.tokens, self.levels, self.most_levels = tokens, 0, 0
+        self.words = [token.value if token.kind in ("word", "delimiter") else None for token in tokens]
+        # The token that is to be read, by its number, and its text where it is a word or a delimiter.
+        self.next, self.token, self.word = 0, tokens[0], self.words[0]
 
     def refuse(self):
         raise Fault(6, self.token.at)
-
-    def sees(self, *values):
-        return self.token.is_(*values)
 
     def sees_name(self):
         return self.token.kind == "name"
 
     def step(self):
         token = self.token
-        self.next += 1
+        self.next = number = self.next + 1
+        self.token, self.word = self.tokens[number], self.words[number]
         return token
 
     def take(self, value):
-        return self.step() if self.sees(value) else self.refuse()
+        return self.step() if self.word == value else self.refuse()
 
     def accepts(self, value):
-        if self.sees(value):
-            self.step()
-            return True
-        return False
+        if self.word != value:
+            return False
+        self.step()
+        return True
 
     def name(self):
         token = self.step() if self.sees_name() else self.refuse()
@@ -393,11 +390,12 @@ class Parser:
 
     def open(self, *values):
         """Takes a token that opens a level."""
-        if not self.sees(*values):
+        if self.word not in values:
             self.refuse()
         if self.levels == MOST_LEVELS:
             raise Fault(7, self.token.at)
         self.levels += 1
+        self.most_levels = max(self.most_levels, self.levels)
         return self.step()
 
     def close(self, value=None):
@@ -409,7 +407,7 @@ class Parser:
 
     def expression(self):
         left = self.relation()
-        if not self.sees(*LOGICAL):
+        if self.word not in LOGICAL:
             return left
         operator = self.token.value
         at = self.step().at
@@ -417,7 +415,7 @@ class Parser:
         is_short = bool(follows) and self.accepts(follows)
         chain = f"{operator} {follows}" if is_short else operator
         left = Binary(left.at, chain, left, self.relation(), at)
-        while self.sees(*LOGICAL):
+        while self.word in LOGICAL:
             at = self.take(operator).at
             if is_short:
                 self.take(follows)
@@ -426,31 +424,31 @@ class Parser:
 
     def relation(self):
         left = self.simple()
-        if self.sees(*RELATIONS):
+        if self.word in RELATIONS:
             operator = self.step()
             return Binary(left.at, operator.value, left, self.simple(), operator.at)
         return left
 
     def simple(self):
-        if self.sees("+", "-"):
+        if self.word in ("+", "-"):
             sign = self.step()
             left = Unary(sign.at, sign.value, self.term())
         else:
             left = self.term()
-        while self.sees("+", "-"):
+        while self.word in ("+", "-"):
             operator = self.step()
             left = Binary(left.at, operator.value, left, self.term(), operator.at)
         return left
 
     def term(self):
         left = self.factor()
-        while self.sees("*", "/", "mod", "rem"):
+        while self.word in ("*", "/", "mod", "rem"):
             operator = self.step()
             left = Binary(left.at, operator.value, left, self.factor(), operator.at)
         return left
 
     def factor(self):
-        if self.sees("abs", "not"):
+        if self.word in ("abs", "not"):
             operator = self.step()
             return Unary(operator.at, operator.value, self.primary())
         return self.primary()
@@ -461,10 +459,10 @@ class Parser:
             return Number(token.at, token.value)
         if self.sees_name():
             return self.whole_name()
-        if not self.sees("("):
+        if self.word != "(":
             self.refuse()
         at = self.open("(").at
-        inner = self.if_expression() if self.sees("if") else Parenthesized(at, self.expression())
+        inner = self.if_expression() if self.word == "if" else Parenthesized(at, self.expression())
         inner.at = at
         self.close(")")
         return inner
@@ -486,8 +484,8 @@ class Parser:
     def whole_name(self):
         name, at = self.name()
         parts = []
-        while self.sees(".", "(", "'"):
-            if self.sees("("):
+        while self.word in (".", "(", "'"):
+            if self.word == "(":
                 opened = self.open("(").at
                 arguments = [self.argument()]
                 while self.accepts(","):
@@ -518,7 +516,7 @@ class Parser:
     # Declarations
 
     def type_declaration(self):
-        if self.sees("subtype"):
+        if self.word == "subtype":
             return self.subtype_declaration()
         at = self.take("type").at
         name, name_at = self.name()
@@ -527,11 +525,11 @@ class Parser:
             low, high = self.range()
             self.take(";")
             return RangeType(at, name, name_at, low, high)
-        if self.sees("array"):
+        if self.word == "array":
             return self.array_type(at, name, name_at)
         self.take("record")
         components = []
-        while not components or not self.sees("end"):
+        while not components or self.word != "end":
             component, place = self.name()
             self.take(":")
             components.append(Component(place, component, self.bare_name()))
@@ -546,7 +544,7 @@ class Parser:
         self.open("(")
         bounds_at = self.token.at
         low = self.simple()
-        is_index = isinstance(low, Name) and not low.parts and self.sees(")")
+        is_index = isinstance(low, Name) and not low.parts and self.word == ")"
         bounds = index = None
         if is_index:
             index = low
@@ -584,7 +582,7 @@ class Parser:
         return ObjectDeclaration(at, name, is_constant, subtype, initial)
 
     def formals(self):
-        if not self.sees("("):
+        if self.word != "(":
             return []
         self.open("(")
         formals = [self.formal()]
@@ -601,7 +599,7 @@ class Parser:
         return Formal(at, name, mode, self.bare_name())
 
     def subprogram(self, *kinds):
-        if not self.sees(*kinds):
+        if self.word not in kinds:
             self.refuse()
         word = self.step()
         name, name_at = self.name()
@@ -613,7 +611,7 @@ class Parser:
         return Subprogram(word.at, word.value, name, name_at, formals, result)
 
     def aspect(self):
-        if not self.sees("with"):
+        if self.word != "with":
             return None
         at = self.take("with").at
         name, name_at = self.name()
@@ -625,7 +623,7 @@ class Parser:
         aspect = self.aspect()
         entries, end_name = [], None
         if self.accepts("is"):
-            while self.sees("entry"):
+            while self.word == "entry":
                 entry_at = self.step().at
                 entry, place = self.name()
                 entries.append((entry_at, entry, place))
@@ -640,7 +638,7 @@ class Parser:
         aspect = self.aspect()
         self.take("is")
         operations, components = [], []
-        while self.sees("procedure", "function", "entry"):
+        while self.word in ("procedure", "function", "entry"):
             operation = self.subprogram("procedure", "function", "entry")
             if operation.kind != "entry":
                 operation.aspect = self.aspect()
@@ -658,13 +656,13 @@ class Parser:
         return ProtectedDeclaration(at, name, name_at, aspect, operations, components, end_name)
 
     def item(self):
-        if self.sees("type", "subtype"):
+        if self.word in ("type", "subtype"):
             return self.type_declaration()
         if self.sees_name():
             return self.object_declaration(allows_exception=True)
-        if self.sees("task"):
+        if self.word == "task":
             return self.task_declaration(self.step().at)
-        if self.sees("protected"):
+        if self.word == "protected":
             return self.protected_declaration(self.step().at)
         profile = self.subprogram("procedure", "function")
         self.take(";")
@@ -672,12 +670,12 @@ class Parser:
 
     def body_item(self):
         """An item or a body, in the body of a package."""
-        if self.sees("task", "protected"):
+        if self.word in ("task", "protected"):
             word = self.step()
             if self.accepts("body"):
                 return self.task_body(word.at) if word.value == "task" else self.protected_body(word.at)
             return self.task_declaration(word.at) if word.value == "task" else self.protected_declaration(word.at)
-        if not self.sees("procedure", "function"):
+        if self.word not in ("procedure", "function"):
             return self.item()
         profile = self.subprogram("procedure", "function")
         if self.accepts(";"):
@@ -694,7 +692,7 @@ class Parser:
         name, name_at = self.name()
         self.take("is")
         bodies = []
-        while self.sees("procedure", "function", "entry"):
+        while self.word in ("procedure", "function", "entry"):
             profile = self.subprogram("procedure", "function", "entry")
             barrier = None
             if profile.kind == "entry":
@@ -709,10 +707,10 @@ class Parser:
 
     def local_declarations(self):
         declarations = []
-        while not self.sees("begin"):
-            if self.sees("task"):
+        while self.word != "begin":
+            if self.word == "task":
                 declarations.append(self.task_declaration(self.step().at))
-            elif self.sees("protected"):
+            elif self.word == "protected":
                 declarations.append(self.protected_declaration(self.step().at))
             else:
                 declarations.append(self.object_declaration())
@@ -735,7 +733,7 @@ class Parser:
         statements = self.statements("end", "exception")
         handlers = []
         if self.accepts("exception"):
-            while not handlers or self.sees("when"):
+            while not handlers or self.word == "when":
                 handlers.append(self.handler())
         return statements, handlers
 
@@ -748,22 +746,22 @@ class Parser:
         return Handler(at, choices, self.statements("end", "when"))
 
     def choice(self):
-        if self.sees("others"):
+        if self.word == "others":
             return "others", self.step().at
         return self.name()
 
     def statements(self, *ends):
         statements = [self.statement()]
-        while not self.sees(*ends):
+        while self.word not in ends:
             statements.append(self.statement())
         return statements
 
     def statement(self):
         if self.sees_name():
             return self.named_statement()
-        if self.token.kind != "word" or self.token.value not in STATEMENTS:
+        if self.word not in STATEMENTS:
             self.refuse()
-        return STATEMENTS[self.token.value](self)
+        return STATEMENTS[self.word](self)
 
     def named_statement(self):
         name = self.whole_name()
@@ -800,7 +798,7 @@ class Parser:
         value = self.expression()
         self.take("is")
         alternatives = []
-        while not alternatives or self.sees("when"):
+        while not alternatives or self.word == "when":
             alternatives.append(self.alternative())
         self.take("end")
         self.take("case")
@@ -810,7 +808,7 @@ class Parser:
 
     def alternative(self):
         at = self.take("when").at
-        if self.sees("others"):
+        if self.word == "others":
             at, choices = self.step().at, None
         else:
             choices = [self.expression()]
@@ -860,13 +858,13 @@ class Parser:
 
     def return_statement(self):
         at = self.step().at
-        value = None if self.sees(";") else self.expression()
+        value = None if self.word == ";" else self.expression()
         self.take(";")
         return Return(at, value)
 
     def raise_statement(self):
         at = self.step().at
-        name = None if self.sees(";") else self.bare_name()
+        name = None if self.word == ";" else self.bare_name()
         self.take(";")
         return Raise(at, name)
 
@@ -885,11 +883,11 @@ class Parser:
 
     def select_statement(self):
         at = self.take("select").at
-        while not self.sees("select"):
+        while self.word != "select":
             if self.token.kind == "end":
                 self.refuse()
             self.step()
-        if not self.tokens[self.next - 1].is_("end"):
+        if self.words[self.next - 1] != "end":
             self.refuse()
         self.take("select")
         self.take(";")
@@ -914,7 +912,7 @@ class Parser:
 
     def package(self):
         at, clauses = self.token.at, []
-        while self.sees("with"):
+        while self.word == "with":
             clause = self.step().at
             with_unit = self.unit()
             self.take(";")
@@ -925,7 +923,7 @@ class Parser:
         name, name_at = self.name()
         self.take("is")
         items = []
-        while not self.sees("end"):
+        while self.word != "end":
             items.append(self.item())
         self.take("end")
         end_name = self.name()
@@ -935,7 +933,7 @@ class Parser:
         body_name = self.name()
         self.take("is")
         body_items = []
-        while not self.sees("end"):
+        while self.word != "end":
             body_items.append(self.body_item())
         self.take("end")
         body_end_name = self.name()
@@ -952,8 +950,8 @@ class Parser:
         self.take("is")
         self.take("begin")
         calls = []
-        while not calls or not self.sees("end"):
-            if self.sees("null"):
+        while not calls or self.word != "end":
+            if self.word == "null":
                 self.step()
                 calls.append(None)
             else:
@@ -969,9 +967,9 @@ class Parser:
     def program(self):
         first_at = self.token.at
         pragmas = []
-        while self.sees("pragma"):
+        while self.word == "pragma":
             pragmas.append(self.pragma())
-        package = None if self.sees("procedure") else self.package()
+        package = None if self.word == "procedure" else self.package()
         main = self.main()
         if self.token.kind != "end":
             self.refuse()

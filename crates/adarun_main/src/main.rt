@@ -1,17 +1,21 @@
 //! The program: the words of its command line, its files and its streams, handed to `drive`.
 #![tactic(auto)]
 
+mod streams;
+
 ghost use Rattle.std.specs.Prelude.{◌≡◌, None};
 
 use adarun::{FileStore, ReadError, Status, Stopwatch, WriteError, drive};
 use machine::{Steps, WriterSink};
 use std::alloc::Global;
+use std::cell::Cell;
 use std::env;
 use std::io::{self, ErrorKind, IsTerminal};
 use std::marker::Brand;
 use std::process::ExitCode;
 use std::sync::ledger::{Blank, Ledger};
 use std::time::Instant;
+use streams::{Output, Reports};
 use system_files::{FileError, SystemFiles};
 
 /// The files of the system, as the program asks for them.
@@ -100,8 +104,9 @@ fn status_over<L: Ledger, M: Ledger, N: Ledger>(
     requires third_parts { third.parts ≡ N.parts }
     requires third_one { N.parts ≡ 1 }
 {
-    let mut out = WriterSink::<_, L>::new(rt.stdout(), first);
-    let mut err = WriterSink::<_, M>::new(rt.stderr(), second);
+    let is_unread = Cell::new(false);
+    let mut out = WriterSink::<_, L>::new(Output::new(rt.stdout(), &is_unread), first);
+    let mut err = WriterSink::<_, M>::new(Reports::new(rt.stderr(), &is_unread), second);
     let system = SystemFiles::new(rt);
     let mut steps = Steps::<N>::new(rt, third);
     drive(
