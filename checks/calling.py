@@ -1,4 +1,4 @@
-"""A call of a program whose output goes to files without names: no write waits for a reader, which takes a fifth of the time of calls that write many lines."""
+"""A call of a program whose output goes to files without names: no write waits for a reader."""
 import os
 import select
 import subprocess
