@@ -1,6 +1,7 @@
 #!/usr/bin/env python3
 """Reads the value change dumps of sources in the tables, of full_programs.py and of the examples, over steps and over virtual time, and compares each value at each
-tick with those of bench/reference.py: after each step, and where the reference's clock moves on.
+tick with those of bench/reference.py: after each step, and where the reference's clock moves on. Which variables there are, and which words of the reference
+they are, declared_words.py reads from the source.
 
     waves.py PROGRAM FOLDER EXAMPLES SCRATCH
 
@@ -12,7 +13,9 @@ import os
 import re
 import shutil
 import sys
+from functools import partial
 
+import declared_words
 import full_programs
 import rows
 from calling import called
@@ -26,7 +29,8 @@ STATES = {"ready": 0, "running": 1, "asleep": 2, "queued": 3, "served": 4, "fini
 LEFT = 6
 UNTIL = 20_000
 FIRST_CODE, CODES = 33, 94
-NAME = re.compile(r"[A-Za-z_][A-Za-z0-9_$]*$")
+NAME = re.compile(r"[A-Za-z_][A-Za-z0-9_$]*$|\\[!-~]+$")
+WIDE = 2**64
 
 
 class Wrong(Exception):
@@ -39,7 +43,8 @@ def need(test, told):
 
 
 class Dump:
-    """A dump: how long a tick is, its signals in the order in which they are declared, (scopes and name, bits), what changes at each tick, and the last tick."""
+    """A dump: how long a tick is, its signals in the order in which they are declared, (scopes and name, bits, kind), what changes at each tick, and the last
+    tick. A name that begins with `\\` is one without it (an escaped identifier)."""
 
     def __init__(self, text):
         self.words, self.signals, self.codes, self.changes, self.end, self.comments = iter(text.split()), [], {}, {}, None, []
@@ -83,7 +88,7 @@ class Dump:
         need(all("!" <= c <= "~" for c in code) and code not in self.codes, f"code {code}")
         need(len(reference) in (1, 2) and NAME.match(reference[0]), f"reference {reference}")
         self.codes[code] = len(self.signals)
-        self.signals.append(((*scopes, reference[0]), int(size)))
+        self.signals.append(((*scopes, reference[0].removeprefix("\\")), int(size), kind))
 
     def simulation(self):
         time, dumping = None, False
@@ -117,19 +122,16 @@ class Dump:
         changes[signal] = int(bits, 2)
 
 
-def protected_names(source):
-    """The names of the protected objects of a text, in order."""
-    text = re.sub(r'--[^\n]*|"[^"\n]*"', " ", source.decode())
-    return [name.upper() for name in re.findall(r"\bprotected\s+(?!body\b)(\w+)", text, re.IGNORECASE)]
-
-
-def signals_of(world, objects):
+def signals_of(world):
     """The signals that docs/FORMATS.md tells of, with their bits."""
-    signals = [(("run", "time"), 64)]
+    (package, variables), objects = world.scopes
+    signals = [(("run", "time"), 64, "wire")]
     for task in world.tasks:
-        signals += [(("run", task.name, "state"), 3), (("run", task.name, "priority"), 8)]
-    for name in objects:
-        signals += [(("run", name, "inside"), 8), (("run", name, "queued"), 8)]
+        signals += [(("run", task.name, "state"), 3, "wire"), (("run", task.name, "priority"), 8, "wire")]
+    signals += [(("run", package, name), 64, "integer") for name, _ in variables]
+    for own, components in objects:
+        signals += [(("run", own, "inside"), 8, "wire"), (("run", own, "queued"), 8, "wire")]
+        signals += [(("run", own, name), 64, "integer") for name, _ in components]
     return signals
 
 
@@ -141,10 +143,12 @@ def code_of(signal):
 
 def values_of(world):
     """Their values."""
+    (_, variables), objects = world.scopes
     left = world.running if world.outcome and world.outcome.startswith("unhandled") else None
     values = [world.now]
     for number, place in enumerate(world.places()[: len(world.tasks)]):
         values += [LEFT if number == left else STATES[place[0]], world.active(number)]
+    values += [world.plain[word] % WIDE for _, word in variables]
     inside = [set() for _ in world.objects]
     for number, task in enumerate(world.everyone):
         for _, o, _ in task.actions:
@@ -152,15 +156,16 @@ def values_of(world):
     for o, queued in enumerate(world.queued):
         need(len(inside[o]) <= 1, f"tasks {inside[o]} are inside object {o}")
         values += [min(*inside[o], len(world.tasks)) + 1 if inside[o] else 0, 0 if queued is None else queued + 1]
+        values += [world.words[o][word] % WIDE for _, word in objects[o][1]]
     return values
 
 
 class Watched(World):
     """A world that keeps what its signals have at the start and after each step, and where its clock moves on from a time: nobody runs or is ready, and those
-    due sleep still."""
+    due sleep still. Words are then those that the step has left which lets the clock move."""
 
-    def __init__(self, *given):
-        self.time, self.instants, self.seen = None, [], []
+    def __init__(self, scopes, *given):
+        self.scopes, self.time, self.instants, self.seen = scopes, None, [], []
         super().__init__(*given)
         self.seen.append(values_of(self))
 
@@ -191,8 +196,8 @@ def differing(told, values):
     return {signal: value for signal, value in enumerate(values) if value != told[signal]}
 
 
-def declared(dump, world, objects):
-    need(dump.signals == signals_of(world, objects), f"signals {dump.signals}")
+def declared(dump, world):
+    need(dump.signals == signals_of(world), f"signals {dump.signals}")
     need(list(dump.codes) == [code_of(signal) for signal in range(len(dump.signals))], f"codes {list(dump.codes)}")
 
 
@@ -248,11 +253,11 @@ class Checker:
         for file, content in (("main.adb", source), ("input", schedule)):
             with open(self.path(file), "wb") as written:
                 written.write(content)
-        world = world_of(self.program, self.folder, source, schedule, kind=Watched)
+        world = world_of(self.program, self.folder, source, schedule, kind=partial(Watched, declared_words.scopes_of(source)))
         world.run(limit, until)
-        return self.check_run(name, source, world, limit, until)
+        return self.check_run(name, world, limit, until)
 
-    def check_run(self, name, source, world, limit, until=None):
+    def check_run(self, name, world, limit, until=None):
         """The dumps of the source that was written, beside a world that has run so far."""
         seen, instants, last = world.watched(until)
         timed = [] if until is None else ["--until", str(until)]
@@ -263,7 +268,7 @@ class Checker:
             try:
                 dump = Dump(run.stdout.decode("ascii"))
                 self.ticks += len(dump.changes)
-                declared(dump, world, protected_names(source))
+                declared(dump, world)
                 by(dump, values)
                 need(dump.comments == [last], f"comments {dump.comments}")
                 need((run.stderr, run.returncode) == (b"", STATUSES[last.split()[0]]), f"status {run.returncode}, {run.stderr!r}")
@@ -276,7 +281,10 @@ class Checker:
         with open(self.path("run.vcd"), "wb") as written:
             written.write(text)
         self.call("vcd2fst", "run.vcd", "run.fst")
-        again = Dump(self.call("fst2vcd", "run.fst").stdout.decode("ascii"))
+        rewritten = self.call("fst2vcd", "run.fst").stdout.decode("ascii")
+        values = rewritten.partition("$dumpvars")[2]
+        # fst2vcd leaves out the end of the first values where no others follow
+        again = Dump(rewritten if "$end" in values else rewritten + "$end\n")
         first = Dump(text.decode("ascii"))
         self.converted += 1
         if (again.signals, again.changes, again.end) != (first.signals, first.changes, first.end):

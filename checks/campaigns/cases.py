@@ -11,6 +11,7 @@ HERE = os.path.dirname(os.path.realpath(__file__))
 CHECKS = os.path.dirname(HERE)
 sys.path[:0] = [CHECKS, os.path.join(CHECKS, "..", "bench")]
 
+import declared_words  # noqa: E402
 import image_rules  # noqa: E402
 import interpreter  # noqa: E402
 import judge  # noqa: E402
@@ -192,9 +193,9 @@ def readings_differ(caller, form, steps, text, schedule):
     for comparer in comparers:
         comparer.wrong.clear()
     lines, names = interpreter.Schedule(schedule).lines, traces.objects_of(text)
-    world = waves.Watched(data, lines, names, traces.bodies_of(text))
+    world = waves.Watched(declared_words.scopes_of(text), data, lines, names, traces.bodies_of(text))
     caller.tracer.compare("trace", steps, world.trace(steps), False)
-    caller.waver.check_run("dump", text, world, steps)
+    caller.waver.check_run("dump", world, steps)
     measured = measures.Measures(World(data, lines, names), steps)
     caller.measurer.compare("measure", getattr(measured, form)(), *MEASURES[form], "main.adb", "input", str(steps))
     wrong = [told for comparer in comparers for told in comparer.wrong]

@@ -72,7 +72,8 @@ class Writer:
     def __init__(self, seed, reads):
         self.random, self.reads = random.Random(seed), reads
         self.count, self.types, self.exceptions = 0, [INTEGER, NATURAL, POSITIVE, BOOLEAN], []
-        self.constants, self.variables, self.operations, self.protected, self.left = [], [], [], [], 0
+        self.constants, self.variables, self.operations, self.left = [], [], [], 0
+        self.openers = []
 
     def chance(self, share):
         return self.random.random() < share
@@ -567,7 +568,7 @@ class Writer:
         kinds = ["handler"] if channel else []
         kinds += [self.one("procedure", "function", "procedure") for _ in range(self.random.randint(1, 2))]
         if self.chance(0.7):
-            kinds.append("entry")
+            kinds += ["procedure"] * ("procedure" not in kinds) + ["entry"]
         return kinds
 
     def own_operation(self, name, ceiling, kind):
@@ -586,14 +587,17 @@ class Writer:
         self.left = 8
         barrier = f" when {gate.name if self.chance(0.9) else self.one('True', 'False')}" if operation.kind == "entry" else ""
         lines = self.body_lines(self.profile(operation) + barrier, operation, place)
-        if operation.kind != "function" and self.chance(0.7):
+        if operation.kind != "function" and self.chance(0.8):
             value = "False" if operation.kind == "entry" else "True"
             lines.insert(lines.index("begin") + 1, f"   {gate.name} := {value};")
+            if operation.kind == "procedure":
+                self.openers.append(operation)
         return lines
 
     # Tasks
 
-    def task(self):
+    def task(self, meeting):
+        """A task, in whose loop this call comes first, if there is one."""
         name, next_ = self.fresh("K"), self.fresh("L")
         priority = self.random.randint(0, 30) if self.chance(0.1) else self.random.randint(1, 12)
         place = Place(self.visible(), list(self.operations), may_wait=True)
@@ -605,12 +609,26 @@ class Writer:
         period = f"{next_} := {next_} + {self.one('Milliseconds', 'Microseconds')} ({self.random.randint(0, 10)});"
         turn = [*self.statements(inner, 4), *([period, f"delay until {next_};"] if self.chance(0.8) else [])]
         turn = [*self.read_statement(inner), *turn] if self.chance(self.reads / 10) else turn
-        turn = ["begin", *self.indented(turn), *self.handlers(inner, 1, 0.6), "end;"] if self.chance(0.8) else turn
+        turn = ["begin", *self.indented(turn), *self.handlers(inner, 1, 0.9 if meeting else 0.6), "end;"] if meeting or self.chance(0.8) else turn
+        turn = [*self.call_lines(meeting, inner), *turn] if meeting else turn
         loop = [f"for {self.fresh('I')} in 1 .. {self.random.randint(1, 5)} loop", *self.indented(turn), "end loop;"]
-        body = [*self.statements(place, 1), *loop, *self.statements(place, 2)]
+        body = [*([] if meeting else self.statements(place, 1)), *loop, *self.statements(place, 2)]
         lines = [f"task body {name} is", *self.indented(declarations), "begin", *self.indented(body), *self.handlers(place, 0.95, 0.6), f"end {name};"]
         aspect = "" if self.chance(0.1) else f" with Priority => {priority}"
         return f"task {name}{aspect};", lines
+
+    def meetings(self):
+        """Calls by which tasks meet at entries: for most entries one of it, and one of a procedure of its object that opens its barrier."""
+        found = []
+        for entry in self.operations:
+            openers = [it for it in self.openers if it.protected == entry.protected]
+            if entry.kind == "entry" and openers and self.chance(0.7):
+                found += [entry, self.one(*openers)]
+        return found[:4]
+
+    def call_lines(self, operation, place):
+        text = self.call_text(operation, place, 1)
+        return [f"{text};"] if text else []
 
     # Programs
 
@@ -640,8 +658,10 @@ class Writer:
             head, lines = self.protected_object(channels) if maker == "protected_object" else getattr(self, maker)()
             declared += head if isinstance(head, list) else [head]
             bodies += lines
-        for _ in range(self.random.randint(self.reads > 1, 4)):
-            head, lines = self.task()
+        meetings = self.meetings()
+        many = max(self.random.randint(self.reads > 1, 4), len(meetings))
+        for _, meeting in itertools.zip_longest(range(many), meetings):
+            head, lines = self.task(meeting)
             declared.append(head)
             bodies += lines
         run = Operation("procedure", "Run", [])

@@ -24,6 +24,7 @@ use Rattle.compiler.specs.expr_code.specs.Coming.{most_steps}
 use Rattle.compiler.specs.Compiled.{IsBounded, KeepsTokenCounts}
 use Rattle.source_laws.specs.Limits.{SmallIsUnlimited}
 use Rattle.adarun.specs.Naming.{CompilesNamed, objects_of}
+use Rattle.variable_places.specs.Shown.{program_scopes}
 use Rattle.adarun.specs.Operations.{subprogram_names}
 use Rattle.adarun.specs.declared.compilation.Named.{Named}
 use Rattle.adarun.specs.Accepted.{CompilesAccepted, IsJudged, IsTextFault, IsTreeOf, RefusesAccepted, RefusesText, RefusesTree}
@@ -63,6 +64,13 @@ pub named_bodies : {E : Type 0} (r : Result Named E) (text : List ℕ) (made : P
     → IfOk r (λ n. (tree : ProgramTree) → IsTreeOf tree text → n.subprograms.items ≡ subprogram_names tree)
 named_bodies (Ok n) text made only bodies = λ tree is_tree. bodies ∙ ap subprogram_names (only tree is_tree)
 named_bodies (Err e) text made only bodies = tt
+
+-- and the scopes of dumps those of each tree
+pub named_scopes : {E : Type 0} (r : Result Named E) (text : List ℕ) (made : ProgramTree) → ((tree : ProgramTree) → IsTreeOf tree text → made ≡ tree)
+    → IfOk r (λ n. n.scopes ≡ program_scopes made)
+    → IfOk r (λ n. (tree : ProgramTree) → IsTreeOf tree text → n.scopes ≡ program_scopes tree)
+named_scopes (Ok n) text made only scopes = λ tree is_tree. scopes ∙ ap program_scopes (only tree is_tree)
+named_scopes (Err e) text made only scopes = tt
 
 -- what is told of an accepted text where its tree is refused, by the laws of source texts
 abbrev Tells : List ℕ → ProgramTree → Type 0

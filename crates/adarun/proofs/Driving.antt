@@ -32,6 +32,7 @@ use Rattle.adarun.specs.Driving.{HasLoaded, HasRun, HasRunImage, HasRunUntil, Ha
 use Rattle.adarun.specs.Origins.{known_in}
 use Rattle.adarun.specs.Reading.{Contents, IsBeginningRead}
 use Rattle.adarun.specs.Timed.{WritesItsMeaningUntil}
+use Rattle.waveforms.specs.Scopes.{Scopes}
 use Rattle.adarun.specs.declared.compilation.Named.{Named}
 use Rattle.adarun.specs.declared.going.GoFault.{GoFault}
 use Rattle.adarun.specs.declared.going.GoFault.TheVariants as faults
@@ -191,12 +192,14 @@ asked_nothing command error is answers = sym (subst (λ e. AnswersWords command 
 -- ---- `trace`: what is told of equal names and texts is the same
 
 pub told_alike : (view : View) (W : List ℕ → Type 0) (image : Sections) (places : List PlaceRow) (lines : List ScheduleLine) (bound : Bound)
-    → (lent names own bodies : List (List ℕ)) (shown text : List ℕ) → lent ≡ names → own ≡ bodies → shown ≡ text
-    → W (text_of view image lent (known_in shown image places own) lines bound) → W (text_of view image names (known_in text image places bodies) lines bound)
-told_alike view W image places lines bound lent names own bodies shown text same_names same_bodies same_text told =
-    subst (λ n. W (text_of view image n (known_in text image places bodies) lines bound)) same_names
-    (subst (λ o. W (text_of view image lent (known_in text image places o) lines bound)) same_bodies
-    (subst (λ t. W (text_of view image lent (known_in t image places own) lines bound)) same_text told))
+    → (lent names own bodies : List (List ℕ)) (given scopes : Scopes) (shown text : List ℕ) → lent ≡ names → own ≡ bodies → given ≡ scopes → shown ≡ text
+    → W (text_of view image lent given (known_in shown image places own) lines bound)
+    → W (text_of view image names scopes (known_in text image places bodies) lines bound)
+told_alike view W image places lines bound lent names own bodies given scopes shown text same_names same_bodies same_scopes same_text told =
+    subst (λ n. W (text_of view image n scopes (known_in text image places bodies) lines bound)) same_names
+    (subst (λ o. W (text_of view image lent scopes (known_in text image places o) lines bound)) same_bodies
+    (subst (λ s. W (text_of view image lent s (known_in text image places own) lines bound)) same_scopes
+    (subst (λ t. W (text_of view image lent given (known_in t image places own) lines bound)) same_text told)))
 
 -- a view whose text was written, and whose run has an outcome
 module _ (view : View) (text : List ℕ) (named : Named) (lines : List ScheduleLine) (until : Option ℤ) (limit : ℕ) (old new : Option (List ℕ)) (bound : Bound)

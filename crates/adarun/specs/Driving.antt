@@ -37,6 +37,8 @@ use Rattle.tracing.specs.Known.{Known}
 use Rattle.tracing.specs.Traces.{trace_text}
 use Rattle.measuring.specs.Text.{measures_text}
 use Rattle.measuring.specs.declared.text.Form.TheVariants as tables
+use Rattle.variable_places.specs.Shown.{program_scopes}
+use Rattle.waveforms.specs.Scopes.{Scopes}
 use Rattle.waveforms.specs.TimeWaves.{time_waves_text}
 use Rattle.waveforms.specs.Waves.{waves_text}
 use Rattle.command_line.specs.Words.{CheckText, Command, CompileText, ExplainFault, ExplainText, FormatText, GoText, ListImage, Nothing, RunImage, ShowManual, ShowVersion, SearchText, SimulateText, TraceText, asked, is_told}
@@ -181,18 +183,19 @@ input_of contents (Some name) = contents name
 
 -- what is written of a run, by its image, the names of its objects, what is known of its source, its schedule and its bound: rows, a value change dump over
 -- steps or over virtual time, a chart, a picture, or what is measured of it, as a table or as fields
-abbrev pub text_of : View → Sections → List (List ℕ) → Known → List ScheduleLine → Bound → List ℕ
-text_of views.Rows = trace_text
-text_of views.Dump = λ i objects known. waves_text i objects
-text_of views.TimeDump = λ i objects known. time_waves_text i objects
-text_of views.Chart = λ i objects known. chart_text i objects
-text_of views.Picture = λ i objects known. picture_text i objects
-text_of views.Measures = λ i objects known. measures_text tables.Table i objects
-text_of views.MeasuredFields = λ i objects known. measures_text tables.Fields i objects
+abbrev pub text_of : View → Sections → List (List ℕ) → Scopes → Known → List ScheduleLine → Bound → List ℕ
+text_of views.Rows = λ i objects scopes. trace_text i objects
+text_of views.Dump = λ i objects scopes known. waves_text i scopes
+text_of views.TimeDump = λ i objects scopes known. time_waves_text i scopes
+text_of views.Chart = λ i objects scopes known. chart_text i objects
+text_of views.Picture = λ i objects scopes known. picture_text i objects
+text_of views.Measures = λ i objects scopes known. measures_text tables.Table i objects
+text_of views.MeasuredFields = λ i objects scopes known. measures_text tables.Fields i objects
 
 -- what this view has of a run of a named image, by the text that it was compiled of
 abbrev pub named_text : View → (text : List ℕ) → Named → List ScheduleLine → Bound → List ℕ
-named_text view text named = text_of view named.image (names_alone named.objects.items) (known_in text named.image named.places named.subprograms.items)
+named_text view text named =
+    text_of view named.image (names_alone named.objects.items) named.scopes (known_in text named.image named.places named.subprograms.items)
 
 -- this view of a run of a named image, up to a time if one is given, was written, with this outcome
 pub record IsViewed (view : View) (text : List ℕ) (named : Named) (lines : List ScheduleLine) (until : Option ℤ) (limit : ℕ) (old new : Option (List ℕ))
@@ -233,8 +236,8 @@ pub record HasTraced (view : View) (contents : Contents) (source schedule : List
   pub bounded : IsBound image given.lines until limit bound
   pub outcome : Outcome
   pub status_is : status ≡ status_of outcome
-  pub written : Appends old new (text_of view image (object_names compiles.tree) (known_in text image places (subprogram_names compiles.tree))
-      given.lines bound)
+  pub written : Appends old new (text_of view image (object_names compiles.tree) (program_scopes compiles.tree)
+      (known_in text image places (subprogram_names compiles.tree)) given.lines bound)
   pub ends : EndsBy outcome (code image given.lines bound.steps)
 
 -- a beginning of that trace was written
@@ -249,8 +252,8 @@ pub record HasBegunTrace (view : View) (contents : Contents) (source schedule : 
   pub placed : PlacesTell compiles.tree image places
   pub bound : Bound
   pub bounded : IsBound image given.lines until limit bound
-  pub begins : AppendsBeginning old new (text_of view image (object_names compiles.tree) (known_in text image places (subprogram_names compiles.tree))
-      given.lines bound)
+  pub begins : AppendsBeginning old new (text_of view image (object_names compiles.tree) (program_scopes compiles.tree)
+      (known_in text image places (subprogram_names compiles.tree)) given.lines bound)
 
 -- what `trace` wrote to standard output, by the exit status
 abbrev pub LeavesTrace : View → Contents → (source schedule : List ℕ) → (until : Option ℤ) → (limit : ℕ) → Status → Option (List ℕ) → Option (List ℕ)

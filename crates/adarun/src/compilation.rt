@@ -11,6 +11,7 @@ ghost use Rattle.adarun.specs.Operations.{subprogram_names};
 ghost use Rattle.legality.specs.ProgramRules.{IsLegal};
 ghost use Rattle.image.specs.Rules.{IsWellFormed};
 ghost use Rattle.ravenscar.specs.ProgramRules.{IsRestricted};
+ghost use Rattle.variable_places.specs.Shown.{program_scopes};
 
 use crate::naming::{ObjectNames, objects_of};
 use crate::operations::subprograms_of;
@@ -25,14 +26,17 @@ use parser::parse;
 use ravenscar::{Accepted, restrict};
 use source_laws::laws::small_is_unlimited;
 use std::alloc::Global;
+use variable_places::scopes_of;
+use waveforms::Scopes;
 
-/// The image of a program, the names of its protected objects and their entries and those of its subprograms, in the order of their numbers, and the places of
-/// its statements.
+/// The image of a program, the names of its protected objects and their entries and those of its subprograms, in the order of their numbers, the scopes of its
+/// dumps, and the places of its statements.
 #[derive(Drop)]
 pub(crate) struct Named {
     pub(crate) image: Image,
     pub(crate) objects: Vec<ObjectNames>,
     pub(crate) subprograms: Vec<Text>,
+    pub(crate) scopes: Scopes,
     pub(crate) places: Places,
 }
 
@@ -59,7 +63,8 @@ fn compiled_of(alloc: Global, accepted: &Accepted) -> Result<Compiled, Fault>
     }
 }
 
-// The image of an accepted program with the names of its protected objects, their entries and its subprograms, and the places of its statements.
+// The image of an accepted program with the names of its protected objects, their entries and its subprograms, the scopes of its dumps, and the places of its
+// statements.
 fn named_of(alloc: Global, accepted: &Accepted) -> Result<Named, Fault>
     ensures means { IfOk result (λ named. SameMeaning (program_tree accepted.now) named.image) }
     ensures counted { IfOk result (λ named. KeepsCount (program_tree accepted.now) named.image (most_steps named.image)) }
@@ -68,6 +73,7 @@ fn named_of(alloc: Global, accepted: &Accepted) -> Result<Named, Fault>
     ensures well_formed { IfOk result (λ named. IsWellFormed named.image) }
     ensures names { IfOk result (λ named. named.objects.items ≡ objects_of (program_tree accepted.now)) }
     ensures bodies { IfOk result (λ named. named.subprograms.items ≡ subprogram_names (program_tree accepted.now)) }
+    ensures scopes { IfOk result (λ named. named.scopes ≡ program_scopes (program_tree accepted.now)) }
     ensures places { IfOk result (λ named. PlacesTell (program_tree accepted.now) named.image named.places) }
     ensures refused { IfErr result (λ fault. RefusesTree (program_tree accepted.now) fault) }
     ensures legal { IsLegal (program_tree accepted.now) }
@@ -77,24 +83,30 @@ fn named_of(alloc: Global, accepted: &Accepted) -> Result<Named, Fault>
     let Ok(objects) = objects_of(alloc, accepted.program()) else {
         return Err(Fault::memory());
     };
-    match subprograms_of(alloc, accepted.program()) {
-        Ok(subprograms) => Ok(Named {
+    let Ok(subprograms) = subprograms_of(alloc, accepted.program()) else {
+        return Err(Fault::memory());
+    };
+    match scopes_of(alloc, accepted.scope(), accepted.program()) {
+        Ok(scopes) => Ok(Named {
             image,
             objects,
             subprograms,
+            scopes,
             places,
         }),
         Err(_) => Err(Fault::memory()),
     }
 }
 
-/// Compiles a source text as `compile` does, and gives the names of its protected objects, their entries and its subprograms, and the places of its statements.
+/// Compiles a source text as `compile` does, and gives the names of its protected objects, their entries and its subprograms, the scopes of its dumps, and the
+/// places of its statements.
 ///
 /// # Errors
 /// As `compile`.
 pub(crate) fn compile_named(alloc: Global, source: &[u8]) -> Result<Named, Fault>
     ensures means { IfOk result (λ named. CompilesNamed source.now named.image named.objects.items named.places) }
     ensures bodies { IfOk result (λ named. (tree : ProgramTree) → IsTreeOf tree source.now → named.subprograms.items ≡ subprogram_names tree) }
+    ensures scopes { IfOk result (λ named. (tree : ProgramTree) → IsTreeOf tree source.now → named.scopes ≡ program_scopes tree) }
     ensures accepted { (tree : ProgramTree) → IsAccepted tree source.now → CompilesAccepted source.now tree (imaged result) }
     ensures judged { (tree : ProgramTree) → IsTreeOf tree source.now → IsJudged source.now tree (imaged result) }
     ensures refused { IfErr result (λ fault. RefusesText source.now fault) }

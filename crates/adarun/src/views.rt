@@ -26,7 +26,7 @@ use pictures::picture;
 use std::alloc::Global;
 use std::sync::ledger::Ledger;
 use tracing::{Origins, trace};
-use waveforms::{time_waves, waves};
+use waveforms::{Scopes, time_waves, waves};
 
 pub(crate) fn drive_trace<F: FileStore, O: Sink, E: Sink, L: Ledger>(
     alloc: Global,
@@ -120,34 +120,38 @@ fn write_named<O: Sink, L: Ledger>(
     let Ok(objects) = names_alone(alloc, &named.objects) else {
         return Err(RunFault::Memory);
     };
+    let scopes = &named.scopes;
     write_view(
-        alloc, view, image, &objects, &origins, schedule, bound, out, steps,
+        alloc, view, image, &objects, scopes, &origins, schedule, bound, out, steps,
     )
 }
 
-// Writes this view of a run; its protected objects have these names.
+// Writes this view of a run; its protected objects have these names, and its dumps these scopes.
 fn write_view<P: Origins, O: Sink, L: Ledger>(
     alloc: Global,
     view: View,
     image: &Image,
     objects: &[Text],
+    scopes: &Scopes,
     origins: &P,
     schedule: &Schedule,
     bound: Bound,
     out: &mut O,
     steps: &mut Steps<L>,
 ) -> Result<Outcome, RunFault>
-    ensures text { OnOk result (Appends (O.bytes out.old) (O.bytes out.new) (text_of view image.now objects.now (P.known origins.now) schedule.now bound)) }
+    ensures text { OnOk result (Appends (O.bytes out.old) (O.bytes out.new)
+        (text_of view image.now objects.now scopes.now (P.known origins.now) schedule.now bound)) }
     ensures ends { IfOk result (λ outcome. EndsBy outcome (code image.now schedule.now bound.steps)) }
     ensures kept { OnOk result (O.failures out.new ≡ O.failures out.old) }
     ensures memory { result ≡ Err RunFault.Memory → out.new ≡ out.old }
     ensures failed { result ≡ Err RunFault.Write → O.failures out.old < O.failures out.new }
-    ensures beginning { AppendsBeginning (O.bytes out.old) (O.bytes out.new) (text_of view image.now objects.now (P.known origins.now) schedule.now bound) }
+    ensures beginning { AppendsBeginning (O.bytes out.old) (O.bytes out.new)
+        (text_of view image.now objects.now scopes.now (P.known origins.now) schedule.now bound) }
 {
     match view {
         View::Rows => trace(alloc, image, objects, origins, schedule, bound, out, steps),
-        View::Dump => waves(alloc, image, objects, schedule, bound, out, steps),
-        View::TimeDump => time_waves(alloc, image, objects, schedule, bound, out, steps),
+        View::Dump => waves(alloc, image, scopes, schedule, bound, out, steps),
+        View::TimeDump => time_waves(alloc, image, scopes, schedule, bound, out, steps),
         View::Chart => chart(alloc, image, objects, schedule, bound, out, steps),
         View::Picture => picture(alloc, image, objects, schedule, bound, out, steps),
         View::Measures => measure(

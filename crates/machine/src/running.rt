@@ -32,7 +32,7 @@ use execution::{Asking, Execution, FrameUse, Line, Raising};
 use image::Image;
 use image_laws::{code_leads_on, lines_grow_on, outcome_stays, steps_whole};
 use kernel::laws::{four_statements_hold, inside_lists, left_unmoved};
-use processor::Steps;
+use processor::{Steps, plain_words};
 use std::alloc::Global;
 use std::marker::Model;
 use std::sync::ledger::Ledger;
@@ -240,6 +240,21 @@ impl<'a, R: Ready, D: Delays> Machine<'a, R, D> {
     {
         let image = self.execution.image();
         self.execution.memory().is_open(image, object)
+    }
+
+    /// The words of the package's variables, one variable after the other.
+    pub fn plain_words(&self) -> &[i64]
+        ensures { result.now ≡ (world_of self.now).rest.memory.plain }
+    {
+        plain_words(self.execution.image(), self.execution.memory().shared())
+    }
+
+    /// The words of the components of a protected object, one component after the other; none for a number that no object has.
+    pub fn object_words(&self, object: u8) -> &[i64]
+        ensures { result.now ≡ (world_of self.now).rest.memory.objects object }
+    {
+        let image = self.execution.image();
+        self.execution.memory().object_words(image, object)
     }
 
     /// The tasks inside an object, by their numbers, and the handler, which is 255 (RM 9.5.1). By ceilings alone there is one at most.

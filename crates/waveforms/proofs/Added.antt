@@ -14,3 +14,7 @@ below_same (suc n) f g same =
     let rest = below_same n f g (λ t less. same t (omega (arith, less))) in
     let last = same n (omega arith) in
     λ j. rest j ++ last j
+
+-- two pieces, one after the other
+pub both_added : (old middle new first second : List ℕ) → middle ≡ old ++ first → new ≡ middle ++ second → new ≡ old ++ (first ++ second)
+both_added old middle new first second one two = two ∙ ap (λ v. v ++ second) one ∙ append_assoc old first second

@@ -1,5 +1,5 @@
--- Dumps of images worked by computation: an entry with queue, service and a preemption; a delay and an exception that ends the run.
-use Rattle.std.proofs.Common.{◌≡◌, ℕ, List, [], ◌∷◌, ◌++◌, pos, Some, arith, refl}
+-- Dumps of images worked by computation: an entry with queue, service and a preemption; a delay and an exception that ends the run; variables.
+use Rattle.std.proofs.Common.{◌≡◌, ℕ, List, [], ◌∷◌, ◌++◌, map, pos, negsuc, None, Some, arith, refl}
 use Rattle.std.specs.Prelude.{◌<ℤ◌, codes}
 use Rattle.std.proofs.lemmas.Int.{ints}
 use Rattle.std.specs.Fmt.{digits}
@@ -16,8 +16,9 @@ use Rattle.image.specs.declared.subprograms.Subprogram.{Subprogram}
 use Rattle.image.specs.declared.tasks.Task.{Task}
 use Rattle.machine.specs.Bounds.{IsBound, at_most}
 use Rattle.machine.specs.declared.bound.Cut.TheVariants.{Time}
+use Rattle.waveforms.specs.Scopes.{Scopes, Variable}
 use Rattle.waveforms.specs.TimeWaves.{time_waves_text}
-use Rattle.waveforms.specs.Waves.{declarations_text, preamble, waves_text}
+use Rattle.waveforms.specs.Waves.{declarations_text, preamble, signal_code, waves_text}
 use Rattle.waveforms.specs.declared.axis.Axis.TheVariants as axes
 
 abbrev at : ℕ → Operation → Instr
@@ -33,6 +34,14 @@ abbrev image_of : List ObjectRow → List Subprogram → List Task → List Inst
 image_of objects subprograms tasks instructions =
     record { exceptions = predefined; labels = codes "got" ∷ []; plain_words = []; objects = objects; subprograms = subprograms; tasks = tasks; rows = []; attachments = []; instructions = instructions }
 
+-- no variables, and an object of this name or none
+
+abbrev none : Scopes
+none = record { package_ = None; objects = [] }
+
+abbrev named : List ℕ → Scopes
+named name = record { package_ = None; objects = record { name = name; variables = [] } ∷ [] }
+
 -- CONS queues at a closed barrier; MAIN opens it, serves the call, and is preempted by the caller
 
 abbrev door : ObjectRow
@@ -46,7 +55,7 @@ served =
     ∷ at 0 (op.EntryCall 0) ∷ at 0 (op.Push (pos 7)) ∷ at 1 (op.PutLine 0) ∷ at 0 op.Return
     ∷ at 0 (op.ProtectedCall 0) ∷ at 0 op.Return ∷ [])
 
-served_waves : waves_text served (codes "DOOR" ∷ []) [] (at_most 100)
+served_waves : waves_text served (named (codes "DOOR")) [] (at_most 100)
     ≡ preamble axes.Steps
     ++ codes "$var wire 64 ! time $end\n"
     ++ codes "$scope module CONS $end\n$var wire 3 \" state $end\n$var wire 8 # priority $end\n$upscope $end\n"
@@ -81,12 +90,12 @@ until_it_wakes =
     ++ codes "#0\n$dumpvars\nb0 !\nb1 \"\nb101 #\nb0 $\nb0 %\n$end\n"
     ++ codes "#2\nb111110100 !\n"
 
-alone_waves : waves_text alone [] [] (at_most 100) ≡ until_it_wakes ++ codes "#5\nb110 \"\n#6\n$comment unhandled CONSTRAINT_ERROR in MAIN at 500\n$end\n"
+alone_waves : waves_text alone none [] (at_most 100) ≡ until_it_wakes ++ codes "#5\nb110 \"\n#6\n$comment unhandled CONSTRAINT_ERROR in MAIN at 500\n$end\n"
 unfolding digits
 alone_waves = refl
 
 -- a name that isn't one of Ada's gives way to the number
-alone_cut : waves_text alone (codes "a b" ∷ []) [] (at_most 3) ≡ until_it_wakes ++ codes "#4\n$comment step limit at 500\n$end\n"
+alone_cut : waves_text alone (named (codes "a b")) [] (at_most 3) ≡ until_it_wakes ++ codes "#4\n$comment step limit at 500\n$end\n"
 unfolding digits
 alone_cut = refl
 
@@ -96,7 +105,7 @@ alone_is_cut =
     let past : pos 499 <ℤ pos 500 = grind (arith, ints) in
     record { earlier = omega arith; within = λ natural. natural; passes = past }
 
-alone_timed : waves_text alone (codes "a b" ∷ []) [] (record { steps = 1; cut = Time })
+alone_timed : waves_text alone (named (codes "a b")) [] (record { steps = 1; cut = Time })
     ≡ preamble axes.Steps
     ++ codes "$var wire 64 ! time $end\n"
     ++ codes "$scope module MAIN $end\n$var wire 3 \" state $end\n$var wire 8 # priority $end\n$upscope $end\n"
@@ -109,16 +118,16 @@ alone_timed = refl
 
 -- Over virtual time: it sleeps from 0 to 500, and is left there by the exception, or runs where the limit cuts it
 
-alone_in_time : time_waves_text alone [] [] (at_most 100)
-    ≡ declarations_text axes.Time [] alone
+alone_in_time : time_waves_text alone none [] (at_most 100)
+    ≡ declarations_text axes.Time none alone
     ++ codes "#0\n$dumpvars\nb0 !\nb10 \"\nb101 #\nb0 $\nb0 %\n$end\n"
     ++ codes "#500\nb111110100 !\nb110 \"\n"
     ++ codes "$comment unhandled CONSTRAINT_ERROR in MAIN at 500\n$end\n"
 unfolding digits
 alone_in_time = refl
 
-alone_cut_in_time : time_waves_text alone [] [] (at_most 3)
-    ≡ declarations_text axes.Time [] alone
+alone_cut_in_time : time_waves_text alone none [] (at_most 3)
+    ≡ declarations_text axes.Time none alone
     ++ codes "#0\n$dumpvars\nb0 !\nb10 \"\nb101 #\nb0 $\nb0 %\n$end\n"
     ++ codes "#500\nb111110100 !\nb1 \"\n"
     ++ codes "$comment step limit at 500\n$end\n"
@@ -126,8 +135,8 @@ unfolding digits
 alone_cut_in_time = refl
 
 -- of the time 499 there is the first instant alone, which the cut leaves before its end
-alone_timed_in_time : time_waves_text alone [] [] (record { steps = 1; cut = Time })
-    ≡ declarations_text axes.Time [] alone ++ codes "#0\n$dumpvars\nb0 !\nb1 \"\nb101 #\nb0 $\nb0 %\n$end\n" ++ codes "$comment time limit at 0\n$end\n"
+alone_timed_in_time : time_waves_text alone none [] (record { steps = 1; cut = Time })
+    ≡ declarations_text axes.Time none alone ++ codes "#0\n$dumpvars\nb0 !\nb1 \"\nb101 #\nb0 $\nb0 %\n$end\n" ++ codes "$comment time limit at 0\n$end\n"
 unfolding digits
 alone_timed_in_time = refl
 
@@ -141,10 +150,73 @@ waits =
     ∷ at 0 (op.EntryCall 0) ∷ at 0 (op.Push (pos 7)) ∷ at 1 (op.PutLine 0) ∷ at 0 op.Return
     ∷ at 0 (op.Push (pos 500)) ∷ at 1 op.DelayUntil ∷ at 0 (op.ProtectedCall 0) ∷ at 0 op.Return ∷ [])
 
-waits_in_time : time_waves_text waits (codes "DOOR" ∷ []) [] (at_most 100)
-    ≡ declarations_text axes.Time (codes "DOOR" ∷ []) waits
+waits_in_time : time_waves_text waits (named (codes "DOOR")) [] (at_most 100)
+    ≡ declarations_text axes.Time (named (codes "DOOR")) waits
     ++ codes "#0\n$dumpvars\nb0 !\nb11 \"\nb1010 #\nb10 $\nb101 %\nb0 &\nb1 '\n$end\n"
     ++ codes "#500\nb111110100 !\nb101 \"\nb101 $\nb0 '\n"
     ++ codes "$comment ended at 500\n$end\n"
 unfolding digits
 waits_in_time = refl
+
+-- MAIN stores -5 in the second of two words before it sleeps from 0 to 500, and 1 in the first one after that
+
+abbrev stores : Sections
+stores =
+    record (image_of (door ∷ []) (sub TaskBody 7 1 ∷ sub (EntryBody 0) 8 0 ∷ []) (task (codes "MAIN") 5 0 ∷ [])
+    (at 0 (op.Push (negsuc 4)) ∷ at 1 (op.StorePlain 1) ∷ at 0 (op.Push (pos 500)) ∷ at 1 op.DelayUntil ∷ at 0 (op.Push (pos 1)) ∷ at 1 (op.StorePlain 0) ∷ at 0 op.Return
+    ∷ at 0 op.Return ∷ [])) { plain_words = pos 3 ∷ negsuc 0 ∷ [] }
+
+abbrev variable : List ℕ → ℕ → Variable
+variable name word = record { name = name; word = word }
+
+-- of the package two variables, the second one again by a name that would break the file, and one whose word isn't there; and a component
+abbrev stored : Scopes
+stored = record {
+  package_ = Some (record {
+    name = codes "APP";
+    variables = variable (codes "LEVEL") 0 ∷ variable (codes "T(-1).Y") 1 ∷ variable (codes "a b") 1 ∷ variable (codes "GONE") 2 ∷ [];
+  });
+  objects = record { name = codes "DOOR"; variables = variable (codes "IS_OPEN") 0 ∷ [] } ∷ [];
+}
+
+abbrev stored_declarations : List ℕ
+stored_declarations =
+    codes "$var wire 64 ! time $end\n"
+    ++ codes "$scope module MAIN $end\n$var wire 3 \" state $end\n$var wire 8 # priority $end\n$upscope $end\n"
+    ++ codes "$scope module APP $end\n$var integer 64 $ LEVEL $end\n$var integer 64 % \\T(-1).Y $end\n"
+    ++ codes "$var integer 64 & WORD_1 $end\n$var integer 64 ' GONE $end\n$upscope $end\n"
+    ++ codes "$scope module DOOR $end\n$var wire 8 ( inside $end\n$var wire 8 ) queued $end\n$var integer 64 * IS_OPEN $end\n$upscope $end\n"
+    ++ codes "$upscope $end\n$enddefinitions $end\n"
+
+-- -1 and -5 in 64 bits
+abbrev ones : List ℕ
+ones = codes "1111111111111111111111111111111111111111111111111111111111111111"
+
+abbrev minus_five : List ℕ
+minus_five = codes "1111111111111111111111111111111111111111111111111111111111111011"
+
+stores_waves : waves_text stores stored [] (at_most 100)
+    ≡ preamble axes.Steps
+    ++ stored_declarations
+    ++ codes "#0\n$dumpvars\nb0 !\nb1 \"\nb101 #\nb11 $\nb" ++ ones ++ codes " %\nb" ++ ones ++ codes " &\nb0 '\nb0 (\nb0 )\nb0 *\n$end\n"
+    ++ codes "#2\nb" ++ minus_five ++ codes " %\nb" ++ minus_five ++ codes " &\n"
+    ++ codes "#4\nb111110100 !\n"
+    ++ codes "#6\nb1 $\n"
+    ++ codes "#7\nb101 \"\n"
+    ++ codes "#8\n$comment ended at 500\n$end\n"
+unfolding digits
+stores_waves = refl
+
+-- at the end of the first instant there is what was stored before the clock moved
+stores_in_time : time_waves_text stores stored [] (at_most 100)
+    ≡ preamble axes.Time
+    ++ stored_declarations
+    ++ codes "#0\n$dumpvars\nb0 !\nb10 \"\nb101 #\nb11 $\nb" ++ minus_five ++ codes " %\nb" ++ minus_five ++ codes " &\nb0 '\nb0 (\nb0 )\nb0 *\n$end\n"
+    ++ codes "#500\nb111110100 !\nb101 \"\nb1 $\n"
+    ++ codes "$comment ended at 500\n$end\n"
+unfolding digits
+stores_in_time = refl
+
+-- the codes of the last signal with one character, of the first and the last with two, and of the greatest number
+codes_of_signals : map signal_code (93 ∷ 94 ∷ 8835 ∷ 8836 ∷ []) ≡ codes "~" ∷ codes "\"!" ∷ codes "~~" ∷ codes "\"!!" ∷ []
+codes_of_signals = refl

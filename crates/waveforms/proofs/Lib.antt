@@ -1,6 +1,9 @@
 mod Added
 mod Binary
 mod Changes
+mod Codes
+mod Counts
+mod Declared
 mod Dumped
 mod Examples
 mod HeldValues

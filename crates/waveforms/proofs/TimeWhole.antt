@@ -14,21 +14,22 @@ use Rattle.waveforms.specs.Instants.{instants}
 use Rattle.waveforms.specs.TimeWaves.{instants_text}
 use Rattle.waveforms.specs.Waves.{comment_text, declarations_text}
 use Rattle.waveforms.specs.declared.axis.Axis.TheVariants as axes
+use Rattle.waveforms.specs.Scopes.{Scopes}
 use Rattle.waveforms.proofs.Whole.{last_is}
 
-abbrev pub front : Sections → List (List ℕ) → List ℕ
-front i names = declarations_text axes.Time names i
+abbrev pub front : Sections → Scopes → List ℕ
+front i scopes = declarations_text axes.Time scopes i
 
-module _ (i : Sections) (schedule : List ScheduleLine) (bound : Bound) where
+module _ (scopes : Scopes) (i : Sections) (schedule : List ScheduleLine) (bound : Bound) where
   abbrev pub changes : List ℕ
-  changes = instants_text None (instants i schedule bound.steps)
+  changes = instants_text scopes None (instants i schedule bound.steps)
 
   abbrev pub end_ : List ℕ
   end_ = let k = (code i schedule bound.steps).kernel in comment_text (cut_line bound.cut (names_of i) k.outcome k.now)
 
   module _ (h : HeldWorld) (image : h.image ≡ i) (schedule_is : h.schedule ≡ schedule) where
-    pub changes_are : instants_text None (instants h.image h.schedule bound.steps) ≡ instants_text None (instants i schedule bound.steps)
-    changes_are = λ j. instants_text None (instants (image j) (schedule_is j) bound.steps)
+    pub changes_are : instants_text scopes None (instants h.image h.schedule bound.steps) ≡ instants_text scopes None (instants i schedule bound.steps)
+    changes_are = λ j. instants_text scopes None (instants (image j) (schedule_is j) bound.steps)
 
     pub end_is : (o : Outcome) (line text : List ℕ) → EndsBy o (code h.image h.schedule bound.steps) → line ≡ cut_line bound.cut (names_of i) (ending_of o) (time_of o) → text ≡ comment_text line →
         text ≡ (let k = (code i schedule bound.steps).kernel in comment_text (cut_line bound.cut (names_of i) k.outcome k.now))

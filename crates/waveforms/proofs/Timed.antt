@@ -3,7 +3,7 @@ use Rattle.std.proofs.Common.{◌≡◌, ◌⊎◌, ℕ, ℤ, suc, ◌+◌, ◌-
 use Rattle.std.specs.Prelude.{int_lt, unsigned_abs}
 use Rattle.std.specs.Io.KnownBytes.{Appends}
 use Rattle.base.specs.declared.schedule.ScheduleLine.{ScheduleLine}
-use Rattle.kernel.specs.State.{Kernel, Line, Outcome as KernelOutcome}
+use Rattle.kernel.specs.State.{Line, Outcome as KernelOutcome}
 use Rattle.image.specs.Code.{CodeWorld, code}
 use Rattle.image.specs.Sections.{Sections}
 use Rattle.image_laws.specs.Laws.{OutcomeStays}
@@ -14,8 +14,9 @@ use Rattle.machine.specs.Written.{AppendsBeginning}
 use Rattle.machine.specs.declared.reports.Event.{Event}
 use Rattle.machine.specs.declared.reports.Outcome.{Outcome}
 use Rattle.machine.proofs.Runs.{appends_nothing, appends_two, beginning_after, beginning_of_more}
-use Rattle.waveforms.specs.Instants.{before_clock, ended, ended_by, instants}
+use Rattle.waveforms.specs.Instants.{ended, ended_by, instants, world_before}
 use Rattle.waveforms.specs.Signals.{values}
+use Rattle.waveforms.specs.Scopes.{Scopes}
 use Rattle.waveforms.specs.TimeWaves.{instant_text, instants_text}
 use Rattle.waveforms.specs.LastValues.{dumped_after}
 use Rattle.waveforms.proofs.HeldValues.{values_beside, values_held}
@@ -24,107 +25,113 @@ use Rattle.waveforms.proofs.Standing.{StepsBy, ends_here, stands_on}
 
 -- An instant's text, and the values written then, are the same whatever lines were written.
 
-text_beside : (is_ended : Bool) (dumped : Option (List ℕ)) (k : Kernel) (lines : List Line) →
-    instants_text dumped (if is_ended then record k { lines = lines } ∷ [] else []) ≡ instants_text dumped (if is_ended then k ∷ [] else [])
-text_beside true dumped k lines = ap (λ v. instant_text (unsigned_abs k.now) dumped v ++ []) (values_beside k lines)
-text_beside false dumped k lines = refl
+module _ (scopes : Scopes) where
+  at_end : (time : ℤ) (w : CodeWorld) (lines : List Line) → values scopes (world_before time (record { kernel = record w.kernel { lines = lines }; rest = w.rest })) ≡ values scopes (world_before time w)
+  at_end time w lines = values_beside scopes (world_before time w) lines
 
-dumped_beside : (is_ended : Bool) (dumped : Option (List ℕ)) (k : Kernel) (lines : List Line) →
-    dumped_after dumped (if is_ended then record k { lines = lines } ∷ [] else []) ≡ dumped_after dumped (if is_ended then k ∷ [] else [])
-dumped_beside true dumped k lines = ap (λ v. Some v) (values_beside k lines)
-dumped_beside false dumped k lines = refl
+  text_beside : (is_ended : Bool) (dumped : Option (List ℕ)) (time : ℤ) (w : CodeWorld) (lines : List Line) →
+      instants_text scopes dumped (if is_ended then world_before time (record { kernel = record w.kernel { lines = lines }; rest = w.rest }) ∷ [] else [])
+      ≡ instants_text scopes dumped (if is_ended then world_before time w ∷ [] else [])
+  text_beside true dumped time w lines = ap (λ v. instant_text (unsigned_abs time) dumped v ++ []) (at_end time w lines)
+  text_beside false dumped time w lines = refl
 
-module _ (time : ℤ) (dumped : Option (List ℕ)) (h : HeldWorld) (w : CodeWorld) (stands : HoldsWorld h w) where
-  abbrev k : Kernel
-  k = kernel_of h.tasking
+  dumped_beside : (is_ended : Bool) (dumped : Option (List ℕ)) (time : ℤ) (w : CodeWorld) (lines : List Line) →
+      dumped_after scopes dumped (if is_ended then world_before time (record { kernel = record w.kernel { lines = lines }; rest = w.rest }) ∷ [] else [])
+      ≡ dumped_after scopes dumped (if is_ended then world_before time w ∷ [] else [])
+  dumped_beside true dumped time w lines = ap (λ v. Some v) (at_end time w lines)
+  dumped_beside false dumped time w lines = refl
 
-  text_held : instants_text dumped (ended_by time w.kernel) ≡ instants_text dumped (ended_by time (kernel_of h.tasking))
-  text_held = ap (λ (v : CodeWorld). instants_text dumped (ended_by time v.kernel)) stands ∙ text_beside (int_lt time k.now) dumped (before_clock time k) w.kernel.lines
+module _ (scopes : Scopes) (time : ℤ) (dumped : Option (List ℕ)) (h : HeldWorld) (w : CodeWorld) (stands : HoldsWorld h w) where
+  abbrev is_ended : Bool
+  is_ended = int_lt time (kernel_of h.tasking).now
 
-  dumped_held : dumped_after dumped (ended_by time w.kernel) ≡ dumped_after dumped (ended_by time (kernel_of h.tasking))
-  dumped_held = ap (λ (v : CodeWorld). dumped_after dumped (ended_by time v.kernel)) stands ∙ dumped_beside (int_lt time k.now) dumped (before_clock time k) w.kernel.lines
+  text_held : instants_text scopes dumped (ended_by time w) ≡ instants_text scopes dumped (ended_by time (world_of h))
+  text_held = ap (λ (v : CodeWorld). instants_text scopes dumped (ended_by time v)) stands ∙ text_beside scopes is_ended dumped time (world_of h) w.kernel.lines
+
+  dumped_held : dumped_after scopes dumped (ended_by time w) ≡ dumped_after scopes dumped (ended_by time (world_of h))
+  dumped_held = ap (λ (v : CodeWorld). dumped_after scopes dumped (ended_by time v)) stands ∙ dumped_beside scopes is_ended dumped time (world_of h) w.kernel.lines
 
 -- after n steps: the machine stands for the world, these values were written last, and the instants that these steps end are written
-pub record Timed (i : Sections) (schedule : List ScheduleLine) (n : ℕ) (h : HeldWorld) (dumped : Option (List ℕ)) (old new : Option (List ℕ)) (before after : ℕ) : Type 0 where
+pub record Timed (scopes : Scopes) (i : Sections) (schedule : List ScheduleLine) (n : ℕ) (h : HeldWorld) (dumped : Option (List ℕ)) (old new : Option (List ℕ)) (before after : ℕ) : Type 0 where
   pub image : h.image ≡ i
   pub schedule_is : h.schedule ≡ schedule
   pub stands : HoldsWorld h (code i schedule n)
-  pub dumped_is : dumped ≡ dumped_after None (ended i schedule n)
-  pub written : Appends old new (instants_text None (ended i schedule n))
+  pub dumped_is : dumped ≡ dumped_after scopes None (ended i schedule n)
+  pub written : Appends old new (instants_text scopes None (ended i schedule n))
   pub kept : after ≡ before
 
-pub timed_nothing : (h : HeldWorld) (dumped : Option (List ℕ)) (old : Option (List ℕ)) (before : ℕ) → HoldsWorld h (code h.image h.schedule 0) → dumped ≡ None →
-    Timed h.image h.schedule 0 h dumped old old before before
-timed_nothing h dumped old before stands none =
+pub timed_nothing : (scopes : Scopes) (h : HeldWorld) (dumped : Option (List ℕ)) (old : Option (List ℕ)) (before : ℕ) → HoldsWorld h (code h.image h.schedule 0) → dumped ≡ None →
+    Timed scopes h.image h.schedule 0 h dumped old old before before
+timed_nothing scopes h dumped old before stands none =
     record { image = refl; schedule_is = refl; stands = stands; dumped_is = none; written = appends_nothing old; kept = refl }
 
-module _ (i : Sections) (schedule : List ScheduleLine) (n : ℕ) (h : HeldWorld) (dumped : Option (List ℕ)) (old new : Option (List ℕ)) (before after : ℕ) (r : Timed i schedule n h dumped old new before after) where
+module _ (scopes : Scopes) (i : Sections) (schedule : List ScheduleLine) (n : ℕ) (h : HeldWorld) (dumped : Option (List ℕ)) (old new : Option (List ℕ)) (before after : ℕ) (r : Timed scopes i schedule n h dumped old new before after) where
   module _ (next : HeldWorld) (shown : Event) (steps : StepsBy h next shown) (time : ℤ) (time_is : time ≡ (kernel_of h.tasking).now) (later : Option (List ℕ)) where
     -- the instant that the step ends, if it ends one
-    abbrev piece : List Kernel
-    piece = ended_by time (kernel_of next.tasking)
+    abbrev piece : List CodeWorld
+    piece = ended_by time (world_of next)
 
     stepped : HoldsWorld next (code i schedule (suc n))
     stepped = stands_on i schedule n h next shown r.image r.schedule_is r.stands steps
 
-    one_more : ended i schedule (suc n) ≡ ended i schedule n ++ ended_by time (code i schedule (suc n)).kernel
+    one_more : ended i schedule (suc n) ≡ ended i schedule n ++ ended_by time (code i schedule (suc n))
     one_more =
-        ap (λ t. ended i schedule n ++ ended_by t (code i schedule (suc n)).kernel) (ap (λ (w : CodeWorld). w.kernel.now) r.stands ∙ sym time_is)
+        ap (λ t. ended i schedule n ++ ended_by t (code i schedule (suc n))) (ap (λ (w : CodeWorld). w.kernel.now) r.stands ∙ sym time_is)
 
-    text_on : instants_text None (ended i schedule (suc n)) ≡ instants_text None (ended i schedule n) ++ instants_text dumped piece
+    text_on : instants_text scopes None (ended i schedule (suc n)) ≡ instants_text scopes None (ended i schedule n) ++ instants_text scopes dumped piece
     text_on =
-        ap (instants_text None) one_more
-        ∙ text_more None (ended i schedule n) (ended_by time (code i schedule (suc n)).kernel)
-        ∙ ap (λ t. instants_text None (ended i schedule n) ++ instants_text t (ended_by time (code i schedule (suc n)).kernel)) (sym r.dumped_is)
-        ∙ ap (λ v. instants_text None (ended i schedule n) ++ v) (text_held time dumped next (code i schedule (suc n)) stepped)
+        ap (instants_text scopes None) one_more
+        ∙ text_more scopes None (ended i schedule n) (ended_by time (code i schedule (suc n)))
+        ∙ ap (λ t. instants_text scopes None (ended i schedule n) ++ instants_text scopes t (ended_by time (code i schedule (suc n)))) (sym r.dumped_is)
+        ∙ ap (λ v. instants_text scopes None (ended i schedule n) ++ v) (text_held scopes time dumped next (code i schedule (suc n)) stepped)
 
-    dumped_on : dumped_after None (ended i schedule (suc n)) ≡ dumped_after dumped piece
+    dumped_on : dumped_after scopes None (ended i schedule (suc n)) ≡ dumped_after scopes dumped piece
     dumped_on =
-        ap (dumped_after None) one_more
-        ∙ dumped_more None (ended i schedule n) (ended_by time (code i schedule (suc n)).kernel)
-        ∙ ap (λ t. dumped_after t (ended_by time (code i schedule (suc n)).kernel)) (sym r.dumped_is)
-        ∙ dumped_held time dumped next (code i schedule (suc n)) stepped
+        ap (dumped_after scopes None) one_more
+        ∙ dumped_more scopes None (ended i schedule n) (ended_by time (code i schedule (suc n)))
+        ∙ ap (λ t. dumped_after scopes t (ended_by time (code i schedule (suc n)))) (sym r.dumped_is)
+        ∙ dumped_held scopes time dumped next (code i schedule (suc n)) stepped
 
-    pub timed_on : next.image ≡ h.image → next.schedule ≡ h.schedule → (later_dumped : Option (List ℕ)) (count : ℕ) → later_dumped ≡ dumped_after dumped piece → Appends new later (instants_text dumped piece) → count ≡ after →
-        Timed i schedule (n + 1) next later_dumped old later before count
+    pub timed_on : next.image ≡ h.image → next.schedule ≡ h.schedule → (later_dumped : Option (List ℕ)) (count : ℕ) → later_dumped ≡ dumped_after scopes dumped piece → Appends new later (instants_text scopes dumped piece) → count ≡ after →
+        Timed scopes i schedule (n + 1) next later_dumped old later before count
     timed_on same_image same_schedule later_dumped count dumped_so app same =
         let at : n + 1 ≡ suc n = omega arith in
-        subst (λ m. Timed i schedule m next later_dumped old later before count) (sym at)
+        subst (λ m. Timed scopes i schedule m next later_dumped old later before count) (sym at)
         (record {
           image = same_image ∙ r.image;
           schedule_is = same_schedule ∙ r.schedule_is;
           stands = stepped;
           dumped_is = dumped_so ∙ sym dumped_on;
-          written = subst (Appends old later) (sym text_on) (appends_two old new later (instants_text None (ended i schedule n)) (instants_text dumped piece) r.written app);
+          written = subst (Appends old later) (sym text_on) (appends_two old new later (instants_text scopes None (ended i schedule n)) (instants_text scopes dumped piece) r.written app);
           kept = same ∙ r.kept;
         })
 
     -- an instant that could not be written: what is written is a beginning of all instants that are ended
-    pub broken_instant : (limit : ℕ) → n + 1 ≤ limit → AppendsBeginning new later (instants_text dumped piece) → AppendsBeginning old later (instants_text None (ended i schedule limit))
+    pub broken_instant : (limit : ℕ) → n + 1 ≤ limit → AppendsBeginning new later (instants_text scopes dumped piece) → AppendsBeginning old later (instants_text scopes None (ended i schedule limit))
     broken_instant limit le begun =
         let rest = ended_grow i schedule (suc n) (limit - suc n) in
         let end_ : suc n + (limit - suc n) ≡ limit = omega (arith, le) in
-        let more = instants_text (dumped_after None (ended i schedule (suc n))) rest.0 in
-        let whole : instants_text None (ended i schedule limit) ≡ (instants_text None (ended i schedule n) ++ instants_text dumped piece) ++ more =
-        ap (λ m. instants_text None (ended i schedule m)) (sym end_)
-        ∙ ap (instants_text None) rest.1
-        ∙ text_more None (ended i schedule (suc n)) rest.0
+        let more = instants_text scopes (dumped_after scopes None (ended i schedule (suc n))) rest.0 in
+        let whole : instants_text scopes None (ended i schedule limit) ≡ (instants_text scopes None (ended i schedule n) ++ instants_text scopes dumped piece) ++ more =
+        ap (λ m. instants_text scopes None (ended i schedule m)) (sym end_)
+        ∙ ap (instants_text scopes None) rest.1
+        ∙ text_more scopes None (ended i schedule (suc n)) rest.0
         ∙ ap (λ v. v ++ more) text_on in
         subst (AppendsBeginning old later) (sym whole)
-        (beginning_of_more old later (instants_text None (ended i schedule n) ++ instants_text dumped piece) more
-        (beginning_after old new later (instants_text None (ended i schedule n)) (instants_text dumped piece) r.written begun))
+        (beginning_of_more old later (instants_text scopes None (ended i schedule n) ++ instants_text scopes dumped piece) more
+        (beginning_after old new later (instants_text scopes None (ended i schedule n)) (instants_text scopes dumped piece) r.written begun))
 
 -- what is so up to the outcome, or at the limit, is so at the limit
-pub record Over (i : Sections) (schedule : List ScheduleLine) (limit : ℕ) (h : HeldWorld) (dumped : Option (List ℕ)) (o : Outcome) (old new : Option (List ℕ)) (before after : ℕ) : Type 0 where
+pub record Over (scopes : Scopes) (i : Sections) (schedule : List ScheduleLine) (limit : ℕ) (h : HeldWorld) (dumped : Option (List ℕ)) (o : Outcome) (old new : Option (List ℕ)) (before after : ℕ) : Type 0 where
   pub stands : HoldsWorld h (code i schedule limit)
-  pub dumped_is : dumped ≡ dumped_after None (ended i schedule limit)
-  pub written : Appends old new (instants_text None (ended i schedule limit))
+  pub dumped_is : dumped ≡ dumped_after scopes None (ended i schedule limit)
+  pub written : Appends old new (instants_text scopes None (ended i schedule limit))
   pub ends : EndsBy o (code i schedule limit)
   pub kept : after ≡ before
 
-pub timed_over : OutcomeStays → (i : Sections) (schedule : List ScheduleLine) (n limit : ℕ) (h : HeldWorld) (dumped : Option (List ℕ)) (old new : Option (List ℕ)) (before after : ℕ) → Timed i schedule n h dumped old new before after →
-    n ≤ limit → (n ≡ limit) ⊎ ((e : KernelOutcome) × ((kernel_of h.tasking).outcome ≡ Some e)) → (o : Outcome) → EndsBy o (world_of h) → Over i schedule limit h dumped o old new before after
-timed_over stays i schedule n limit h dumped old new before after r le why o ends =
+pub timed_over : OutcomeStays → (scopes : Scopes) (i : Sections) (schedule : List ScheduleLine) (n limit : ℕ) (h : HeldWorld) (dumped : Option (List ℕ)) (old new : Option (List ℕ)) (before after : ℕ) → Timed scopes i schedule n h dumped old new before after →
+    n ≤ limit → (n ≡ limit) ⊎ ((e : KernelOutcome) × ((kernel_of h.tasking).outcome ≡ Some e)) → (o : Outcome) → EndsBy o (world_of h) → Over scopes i schedule limit h dumped o old new before after
+timed_over stays scopes i schedule n limit h dumped old new before after r le why o ends =
     let at : n + (limit - n) ≡ limit = omega (arith, le) in
     let here : EndsBy o (code i schedule n) = ends_here i schedule n h r.stands o ends in
     let over : (e : KernelOutcome) → (kernel_of h.tasking).outcome ≡ Some e → (code i schedule n).kernel.outcome ≡ Some e = λ e is. ap (λ (w : CodeWorld). w.kernel.outcome) r.stands ∙ is in
@@ -138,42 +145,42 @@ timed_over stays i schedule n limit h dumped old new before after r le why o end
     why in
     record {
       stands = subst (HoldsWorld h) (sym same.0) r.stands;
-      dumped_is = r.dumped_is ∙ ap (dumped_after None) (sym same.1);
-      written = subst (λ ks. Appends old new (instants_text None ks)) (sym same.1) r.written;
+      dumped_is = r.dumped_is ∙ ap (dumped_after scopes None) (sym same.1);
+      written = subst (λ ks. Appends old new (instants_text scopes None ks)) (sym same.1) r.written;
       ends = subst (EndsBy o) (sym same.0) here;
       kept = r.kept;
     }
 
 -- the last instant ends with the run
-pub last_instant : (i : Sections) (schedule : List ScheduleLine) (limit : ℕ) (h : HeldWorld) (dumped : Option (List ℕ)) (time : ℕ) (vs : List ℕ) → HoldsWorld h (code i schedule limit) →
-    dumped ≡ dumped_after None (ended i schedule limit) → time ≡ unsigned_abs (kernel_of h.tasking).now → vs ≡ values (kernel_of h.tasking) →
-    instants_text None (instants i schedule limit) ≡ instants_text None (ended i schedule limit) ++ instant_text time dumped vs
-last_instant i schedule limit h dumped time vs stands dumped_is time_is are =
+pub last_instant : (scopes : Scopes) (i : Sections) (schedule : List ScheduleLine) (limit : ℕ) (h : HeldWorld) (dumped : Option (List ℕ)) (time : ℕ) (vs : List ℕ) → HoldsWorld h (code i schedule limit) →
+    dumped ≡ dumped_after scopes None (ended i schedule limit) → time ≡ unsigned_abs (kernel_of h.tasking).now → vs ≡ values scopes (world_of h) →
+    instants_text scopes None (instants i schedule limit) ≡ instants_text scopes None (ended i schedule limit) ++ instant_text time dumped vs
+last_instant scopes i schedule limit h dumped time vs stands dumped_is time_is are =
     let w = code i schedule limit in
-    let so_far = instants_text None (ended i schedule limit) in
+    let so_far = instants_text scopes None (ended i schedule limit) in
     let now : unsigned_abs w.kernel.now ≡ time = ap (λ (v : CodeWorld). unsigned_abs v.kernel.now) stands ∙ sym time_is in
-    let values_are : values w.kernel ≡ vs = values_held h w stands ∙ sym are in
-    text_more None (ended i schedule limit) (w.kernel ∷ [])
-    ∙ ap (λ v. so_far ++ v) (append-nil (instant_text (unsigned_abs w.kernel.now) (dumped_after None (ended i schedule limit)) (values w.kernel)))
+    let values_are : values scopes w ≡ vs = values_held scopes h w stands ∙ sym are in
+    text_more scopes None (ended i schedule limit) (w ∷ [])
+    ∙ ap (λ v. so_far ++ v) (append-nil (instant_text (unsigned_abs w.kernel.now) (dumped_after scopes None (ended i schedule limit)) (values scopes w)))
     ∙ (λ j. so_far ++ instant_text (now j) (sym dumped_is j) (values_are j))
 
-pub ended_begun : (i : Sections) (schedule : List ScheduleLine) (limit : ℕ) (old new : Option (List ℕ)) → AppendsBeginning old new (instants_text None (ended i schedule limit)) →
-    AppendsBeginning old new (instants_text None (instants i schedule limit))
-ended_begun i schedule limit old new begun =
-    let last = (code i schedule limit).kernel ∷ [] in
-    subst (AppendsBeginning old new) (sym (text_more None (ended i schedule limit) last))
-    (beginning_of_more old new (instants_text None (ended i schedule limit)) (instants_text (dumped_after None (ended i schedule limit)) last) begun)
+pub ended_begun : (scopes : Scopes) (i : Sections) (schedule : List ScheduleLine) (limit : ℕ) (old new : Option (List ℕ)) → AppendsBeginning old new (instants_text scopes None (ended i schedule limit)) →
+    AppendsBeginning old new (instants_text scopes None (instants i schedule limit))
+ended_begun scopes i schedule limit old new begun =
+    let last = code i schedule limit ∷ [] in
+    subst (AppendsBeginning old new) (sym (text_more scopes None (ended i schedule limit) last))
+    (beginning_of_more old new (instants_text scopes None (ended i schedule limit)) (instants_text scopes (dumped_after scopes None (ended i schedule limit)) last) begun)
 
 -- by what the machine is asked for at the end
-module _ (i : Sections) (schedule : List ScheduleLine) (limit : ℕ) (h : HeldWorld) (dumped : Option (List ℕ)) (time : ℕ) (vs : List ℕ) (stands : HoldsWorld h (code i schedule limit))
-    (dumped_is : dumped ≡ dumped_after None (ended i schedule limit)) (time_is : time ≡ unsigned_abs (kernel_of h.tasking).now) (are : vs ≡ values (kernel_of h.tasking))
-    (old middle new : Option (List ℕ)) (wrote : Appends old middle (instants_text None (ended i schedule limit))) where
-  pub all_instants : (text : List ℕ) → text ≡ instant_text time dumped vs → Appends middle new text → Appends old new (instants_text None (instants i schedule limit))
+module _ (scopes : Scopes) (i : Sections) (schedule : List ScheduleLine) (limit : ℕ) (h : HeldWorld) (dumped : Option (List ℕ)) (time : ℕ) (vs : List ℕ) (stands : HoldsWorld h (code i schedule limit))
+    (dumped_is : dumped ≡ dumped_after scopes None (ended i schedule limit)) (time_is : time ≡ unsigned_abs (kernel_of h.tasking).now) (are : vs ≡ values scopes (world_of h))
+    (old middle new : Option (List ℕ)) (wrote : Appends old middle (instants_text scopes None (ended i schedule limit))) where
+  pub all_instants : (text : List ℕ) → text ≡ instant_text time dumped vs → Appends middle new text → Appends old new (instants_text scopes None (instants i schedule limit))
   all_instants text is app =
-      subst (Appends old new) (sym (last_instant i schedule limit h dumped time vs stands dumped_is time_is are))
-      (appends_two old middle new (instants_text None (ended i schedule limit)) (instant_text time dumped vs) wrote (subst (Appends middle new) is app))
+      subst (Appends old new) (sym (last_instant scopes i schedule limit h dumped time vs stands dumped_is time_is are))
+      (appends_two old middle new (instants_text scopes None (ended i schedule limit)) (instant_text time dumped vs) wrote (subst (Appends middle new) is app))
 
-  pub last_begun : (text : List ℕ) → text ≡ instant_text time dumped vs → AppendsBeginning middle new text → AppendsBeginning old new (instants_text None (instants i schedule limit))
+  pub last_begun : (text : List ℕ) → text ≡ instant_text time dumped vs → AppendsBeginning middle new text → AppendsBeginning old new (instants_text scopes None (instants i schedule limit))
   last_begun text is begun =
-      subst (AppendsBeginning old new) (sym (last_instant i schedule limit h dumped time vs stands dumped_is time_is are))
-      (beginning_after old middle new (instants_text None (ended i schedule limit)) (instant_text time dumped vs) wrote (subst (AppendsBeginning middle new) is begun))
+      subst (AppendsBeginning old new) (sym (last_instant scopes i schedule limit h dumped time vs stands dumped_is time_is are))
+      (beginning_after old middle new (instants_text scopes None (ended i schedule limit)) (instant_text time dumped vs) wrote (subst (AppendsBeginning middle new) is begun))

@@ -4,8 +4,10 @@ use Rattle.std.proofs.lemmas.Bool.{lt-ltb}
 use Rattle.base.specs.declared.limits.TheConstants.{ACTOR, CHANNELS, TASKS}
 use Rattle.kernel.specs.Interrupts.{told}
 use Rattle.kernel.specs.State.{Action, Kernel, Partition, active, actor, inside, inside_among, is_object_open, is_task, raised}
-use Rattle.waveforms.specs.Instants.{before_clock, waiting}
-use Rattle.waveforms.specs.Signals.{all_below, from_one, object_values, shown}
+use Rattle.image.specs.Code.{CodeWorld}
+use Rattle.waveforms.specs.Instants.{before_clock, waiting, waiting_world, world_before}
+use Rattle.waveforms.specs.Signals.{all_below, components, from_one, shown, shown_object, variable_values}
+use Rattle.waveforms.specs.Scopes.{Scopes}
 
 -- but for the time, the kernel at the end of an instant is that of those who wait
 
@@ -13,9 +15,11 @@ inside_timed : (n : ℕ) (time : ℤ) (k : Kernel) (o : ℕ) → inside_among n 
 inside_timed zero time k o = refl
 inside_timed (suc n) time k o = ap (λ v. v ++ (if is_object_open o ((waiting k).actions n) then n ∷ [] else [])) (inside_timed n time k o)
 
-pub objects_timed : (time : ℤ) (k : Kernel) (count : ℕ) → all_below count (object_values (before_clock time k)) ≡ all_below count (object_values (waiting k))
-objects_timed time k count =
-    λ j. all_below count (λ o. from_one (shown (waiting k) (slice_get (inside_timed (suc (actor k.partition CHANNELS)) time k o j) 0)) ∷ from_one (k.queued o) ∷ [])
+pub objects_timed : (scopes : Scopes) (time : ℤ) (w : CodeWorld) (count : ℕ) → all_below count (shown_object scopes (world_before time w)) ≡ all_below count (shown_object scopes (waiting_world w))
+objects_timed scopes time w count =
+    λ j. all_below count
+    (λ o. (from_one (shown (waiting w.kernel) (slice_get (inside_timed (suc (actor w.kernel.partition CHANNELS)) time w.kernel o j) 0)) ∷ from_one (w.kernel.queued o) ∷ [])
+    ++ variable_values (w.rest.memory.objects o) (components scopes o))
 
 -- those who wait
 

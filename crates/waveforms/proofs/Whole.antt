@@ -7,8 +7,7 @@ use Rattle.image.specs.Sections.{Sections}
 use Rattle.image.specs.Texts.{names_of}
 use Rattle.machine.specs.Bounds.{cut_line}
 use Rattle.machine.specs.Outcomes.{ending_of, time_of}
-use Rattle.tasking.specs.Held.{kernel_of}
-use Rattle.execution.specs.Held.{HeldWorld}
+use Rattle.execution.specs.Held.{HeldWorld, world_of}
 use Rattle.machine.specs.Stands.{EndsBy, HoldsWorld}
 use Rattle.machine.specs.Written.{AppendsBeginning}
 use Rattle.machine.specs.Taken.{steps_taken}
@@ -16,33 +15,34 @@ use Rattle.machine.specs.declared.bound.Bound.{Bound}
 use Rattle.machine.specs.declared.reports.Outcome.{Outcome}
 use Rattle.waveforms.specs.Signals.{values}
 use Rattle.waveforms.specs.Waves.{declarations_text, ending_text, start_text, steps_text, waves_text}
+use Rattle.waveforms.specs.Scopes.{Scopes}
 use Rattle.waveforms.specs.declared.axis.Axis.TheVariants as axes
 use Rattle.waveforms.proofs.HeldValues.{values_held}
 use Rattle.waveforms.proofs.Parts as parts
 
-module _ (i : Sections) (names : List (List ℕ)) (schedule : List ScheduleLine) (bound : Bound) where
+module _ (i : Sections) (scopes : Scopes) (schedule : List ScheduleLine) (bound : Bound) where
   abbrev pub front : List ℕ
-  front = declarations_text axes.Steps names i ++ start_text 0 (values (code i schedule 0).kernel)
+  front = declarations_text axes.Steps scopes i ++ start_text 0 (values scopes (code i schedule 0))
 
   abbrev pub changes : List ℕ
-  changes = steps_text i schedule bound.steps
+  changes = steps_text i scopes schedule bound.steps
 
   abbrev pub end_ : List ℕ
   end_ = let k = (code i schedule bound.steps).kernel in ending_text (steps_taken i schedule bound.steps) (cut_line bound.cut (names_of i) k.outcome k.now)
 
   module _ (old middle : Option (List ℕ)) where
-    pub front_begun : AppendsBeginning old middle front → AppendsBeginning old middle (waves_text i names schedule bound)
+    pub front_begun : AppendsBeginning old middle front → AppendsBeginning old middle (waves_text i scopes schedule bound)
     front_begun begun = parts.front_begun front changes end_ old middle begun
 
     module _ (wrote : Appends old middle front) (later : Option (List ℕ)) where
-      pub changes_begun : AppendsBeginning middle later changes → AppendsBeginning old later (waves_text i names schedule bound)
+      pub changes_begun : AppendsBeginning middle later changes → AppendsBeginning old later (waves_text i scopes schedule bound)
       changes_begun begun = parts.changes_begun front changes end_ old middle wrote later begun
 
       module _ (wrote_changes : Appends middle later changes) (last : Option (List ℕ)) where
-        pub whole : Appends later last end_ → Appends old last (waves_text i names schedule bound)
+        pub whole : Appends later last end_ → Appends old last (waves_text i scopes schedule bound)
         whole app = parts.whole front changes end_ old middle wrote later wrote_changes last app
 
-        pub end_begun : AppendsBeginning later last end_ → AppendsBeginning old last (waves_text i names schedule bound)
+        pub end_begun : AppendsBeginning later last end_ → AppendsBeginning old last (waves_text i scopes schedule bound)
         end_begun begun = parts.end_begun front changes end_ old middle wrote later wrote_changes last begun
 
 -- the last line of a run, by how it ended
@@ -55,15 +55,15 @@ last_is i schedule bound h image schedule_is o line ends said =
     ∙ (λ j. let k = (code (image j) (schedule_is j) bound.steps).kernel in cut_line bound.cut (names_of i) k.outcome k.now)
 
 -- what a machine has written of this image and schedule
-module _ (i : Sections) (names : List (List ℕ)) (schedule : List ScheduleLine) (bound : Bound) (h : HeldWorld) (image : h.image ≡ i) (schedule_is : h.schedule ≡ schedule) where
-  pub front_is : HoldsWorld h (code i schedule 0) → (text : List ℕ) → text ≡ declarations_text axes.Steps names i ++ start_text 0 (values (kernel_of h.tasking)) → text ≡ front i names schedule bound
-  front_is stands text is = is ∙ ap (λ v. declarations_text axes.Steps names i ++ start_text 0 v) (sym (values_held h (code i schedule 0) stands))
+module _ (i : Sections) (scopes : Scopes) (schedule : List ScheduleLine) (bound : Bound) (h : HeldWorld) (image : h.image ≡ i) (schedule_is : h.schedule ≡ schedule) where
+  pub front_is : HoldsWorld h (code i schedule 0) → (text : List ℕ) → text ≡ declarations_text axes.Steps scopes i ++ start_text 0 (values scopes (world_of h)) → text ≡ front i scopes schedule bound
+  front_is stands text is = is ∙ ap (λ v. declarations_text axes.Steps scopes i ++ start_text 0 v) (sym (values_held scopes h (code i schedule 0) stands))
 
-  pub changes_are : steps_text h.image h.schedule bound.steps ≡ changes i names schedule bound
-  changes_are = λ j. steps_text (image j) (schedule_is j) bound.steps
+  pub changes_are : steps_text h.image scopes h.schedule bound.steps ≡ changes i scopes schedule bound
+  changes_are = λ j. steps_text (image j) scopes (schedule_is j) bound.steps
 
   pub end_is : (o : Outcome) (taken : ℕ) (line text : List ℕ) → taken ≡ steps_taken h.image h.schedule bound.steps → EndsBy o (code h.image h.schedule bound.steps) →
-      line ≡ cut_line bound.cut (names_of i) (ending_of o) (time_of o) → text ≡ ending_text taken line → text ≡ end_ i names schedule bound
+      line ≡ cut_line bound.cut (names_of i) (ending_of o) (time_of o) → text ≡ ending_text taken line → text ≡ end_ i scopes schedule bound
   end_is o taken line text is ends said text_is =
       let last = last_is i schedule bound h image schedule_is o line ends said in
       text_is ∙ (λ j. ending_text (is j) (last j)) ∙ (λ j. let k = (code i schedule bound.steps).kernel in ending_text (steps_taken (image j) (schedule_is j) bound.steps) (cut_line bound.cut (names_of i) k.outcome k.now))

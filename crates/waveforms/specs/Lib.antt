@@ -1,3 +1,4 @@
+pub mod Scopes
 pub mod Signals
 pub mod Waves
 pub mod Instants

@@ -1,7 +1,9 @@
--- The values of a run's signals: its time, and the states of its tasks and protected objects, by the kernel.
-use Rattle.std.specs.Prelude.{ℕ, zero, suc, ◌+◌, List, [], ◌∷◌, ◌++◌, Option, Some, None, Bool, false, nat_eq, slice_get, if◌then◌else◌}
+-- The values of a run's signals: its time, the states of its tasks and protected objects, and its variables, by the world of code.
+use Rattle.std.specs.Prelude.{ℕ, zero, suc, ◌+◌, ◌*◌, ℤ, pos, List, [], ◌∷◌, ◌++◌, Option, Some, None, Bool, false, get_or, length, map, nat_eq, slice_get, if◌then◌else◌}
 use Rattle.std.specs.Int.{cast_unsigned, w64}
 use Rattle.kernel.specs.State.{Kernel, Outcome, Unhandled, TaskPlace, IsRunning, IsReady, IsAsleep, IsQueued, IsServed, IsFinished, active, inside, is_task}
+use Rattle.image.specs.Code.{CodeWorld}
+use Rattle.waveforms.specs.Scopes.{VariableScope, Scopes, Variable}
 
 -- what stands for each number below n, in their order
 abbrev pub all_below : {X : Type 0} → ℕ → (ℕ → List X) → List X
@@ -45,8 +47,45 @@ shown k (Some t) = Some (if is_task k.partition t then t else k.partition.tasks)
 abbrev pub object_values : Kernel → ℕ → List ℕ
 object_values k o = from_one (shown k (slice_get (inside k o) 0)) ∷ from_one (k.queued o) ∷ []
 
--- All
+-- Variables
 
--- in the order in which the signals are declared; the time in 64 bits
-abbrev pub values : Kernel → List ℕ
-values k = (cast_unsigned w64 k.now ∷ []) ++ all_below k.partition.tasks (task_values k) ++ all_below k.partition.objects (object_values k)
+-- the value of a variable that is the word of this number, in 64 bits; 0 where there is no such word
+abbrev pub word_value : List ℤ → ℕ → ℕ
+word_value words n = cast_unsigned w64 (get_or words n (pos 0))
+
+abbrev pub variable_values : List ℤ → List Variable → List ℕ
+variable_values words vs = map (λ v. word_value words v.word) vs
+
+abbrev pub variables_in : Option VariableScope → List Variable
+variables_in None = []
+variables_in (Some s) = s.variables
+
+abbrev pub package_variables : Scopes → List Variable
+package_variables scopes = variables_in scopes.package_
+
+-- those of object o: its components
+abbrev pub components : Scopes → ℕ → List Variable
+components scopes o = variables_in (slice_get scopes.objects o)
+
+-- All, in the order in which the signals are declared
+
+abbrev pub shown_object : Scopes → CodeWorld → ℕ → List ℕ
+shown_object scopes w o = object_values w.kernel o ++ variable_values (w.rest.memory.objects o) (components scopes o)
+
+-- the time is in 64 bits
+abbrev pub values : Scopes → CodeWorld → List ℕ
+values scopes w =
+    (cast_unsigned w64 w.kernel.now ∷ [])
+    ++ all_below w.kernel.partition.tasks (task_values w.kernel)
+    ++ variable_values w.rest.memory.plain (package_variables scopes)
+    ++ all_below w.kernel.partition.objects (shown_object scopes w)
+
+-- Signals are numbered from 0. The first of the package follows the time and those of the tasks, of which there are so many.
+
+abbrev pub package_first : (tasks : ℕ) → ℕ
+package_first tasks = 1 + 2 * tasks
+
+-- the first of object o follows those of the package and of the objects before it; so many signals there are before it
+abbrev pub object_first : Scopes → (tasks : ℕ) → ℕ → ℕ
+object_first scopes tasks zero = package_first tasks + length (package_variables scopes)
+object_first scopes tasks (suc o) = object_first scopes tasks o + 2 + length (components scopes o)

@@ -1,8 +1,7 @@
 -- The value change dump of a run over virtual time, byte for byte (docs/FORMATS.md, "Value change dumps").
 use Rattle.std.specs.Prelude.{ℕ, List, [], ◌∷◌, ◌++◌, Option, Some, None, unsigned_abs}
 use Rattle.base.specs.declared.schedule.ScheduleLine.{ScheduleLine}
-use Rattle.kernel.specs.State.{Kernel}
-use Rattle.image.specs.Code.{code}
+use Rattle.image.specs.Code.{CodeWorld, code}
 use Rattle.image.specs.Sections.{Sections}
 use Rattle.image.specs.Texts.{names_of}
 use Rattle.machine.specs.Bounds.{cut_line}
@@ -11,6 +10,7 @@ use Rattle.waveforms.specs.Instants.{instants}
 use Rattle.waveforms.specs.Signals.{values}
 use Rattle.waveforms.specs.Waves.{changes_text, comment_text, declarations_text, start_text, tick_text}
 use Rattle.waveforms.specs.declared.axis.Axis.TheVariants.{Time}
+use Rattle.waveforms.specs.Scopes.{Scopes}
 
 -- the text of an instant at this time, by the values that were written last: all values where none were, or else those that differ
 abbrev pub instant_text : (time : ℕ) → Option (List ℕ) → List ℕ → List ℕ
@@ -18,14 +18,15 @@ instant_text time None new = start_text time new
 instant_text time (Some old) new = tick_text time ++ changes_text 0 old new
 
 -- that of each of these instants, by the values at its end and at that of the one before it; times are not negative
-abbrev pub instants_text : Option (List ℕ) → List Kernel → List ℕ
-instants_text dumped [] = []
-instants_text dumped (k ∷ ks) = instant_text (unsigned_abs k.now) dumped (values k) ++ instants_text (Some (values k)) ks
+abbrev pub instants_text : Scopes → Option (List ℕ) → List CodeWorld → List ℕ
+instants_text scopes dumped [] = []
+instants_text scopes dumped (w ∷ ws) =
+    instant_text (unsigned_abs w.kernel.now) dumped (values scopes w) ++ instants_text scopes (Some (values scopes w)) ws
 
--- all that is written of a run within a bound, where protected objects have these names
-abbrev pub time_waves_text : Sections → List (List ℕ) → List ScheduleLine → Bound → List ℕ
-time_waves_text i names schedule bound =
+-- all that is written of a run within a bound, with the variables of these scopes
+abbrev pub time_waves_text : Sections → Scopes → List ScheduleLine → Bound → List ℕ
+time_waves_text i scopes schedule bound =
     let k = (code i schedule bound.steps).kernel in
-    declarations_text Time names i
-    ++ instants_text None (instants i schedule bound.steps)
+    declarations_text Time scopes i
+    ++ instants_text scopes None (instants i schedule bound.steps)
     ++ comment_text (cut_line bound.cut (names_of i) k.outcome k.now)

@@ -1,6 +1,7 @@
 -- The value change dump of a run, byte for byte (docs/FORMATS.md, "Value change dumps").
-use Rattle.std.specs.Prelude.{ℕ, zero, suc, ◌+◌, ◌*◌, ◌/◌, ◌%◌, List, [], ◌∷◌, ◌++◌, Option, Some, None, codes, decimal, length, nat_eq, nat_lt, bytes_eq, false, slice_get, if◌then◌else◌}
+use Rattle.std.specs.Prelude.{ℕ, zero, suc, ◌+◌, ◌*◌, ◌/◌, ◌%◌, List, [], ◌∷◌, ◌++◌, Option, Some, None, Bool, false, ◌&&◌, codes, decimal, length, nat_eq, nat_lt, bytes_eq, slice_get, if◌then◌else◌}
 use Rattle.std.specs.Fmt.{digits}
+use Rattle.std.specs.List.{list_all}
 use Rattle.base.specs.Names.{is_name}
 use Rattle.base.specs.declared.schedule.ScheduleLine.{ScheduleLine}
 use Rattle.image.specs.Code.{code}
@@ -9,47 +10,90 @@ use Rattle.image.specs.Texts.{names_of}
 use Rattle.machine.specs.Bounds.{cut_line}
 use Rattle.machine.specs.Taken.{steps_taken}
 use Rattle.machine.specs.declared.bound.Bound.{Bound}
-use Rattle.waveforms.specs.Signals.{all_below, values}
+use Rattle.waveforms.specs.Signals.{all_below, components, object_first, package_first, values}
 use Rattle.waveforms.specs.declared.axis.Axis.{Axis}
 use Rattle.waveforms.specs.declared.axis.Axis.TheVariants as axes
-use Rattle.waveforms.specs.declared.text.TheConstants.{CODES}
+use Rattle.waveforms.specs.Scopes.{VariableScope, Scopes, Variable}
+use Rattle.waveforms.specs.declared.text.TheConstants.{CODE_BYTES, CODES}
 
--- Signals are numbered in the order of their declarations, from 0. The code of one is its number in digits of 94, each a printable character
--- from 33 on: one character for the first 94 signals, two for those behind them.
+-- The code of a signal is its number in digits of 94, the printable characters from 33 on, without leading zeros: one character for the first 94 signals,
+-- two for those after them, and so on.
 
+-- its digits, so many at most, before these
+abbrev pub code_onto : (most : ℕ) → ℕ → List ℕ → List ℕ
+code_onto zero s behind = behind
+code_onto (suc most) s behind = if nat_lt s CODES then (33 + s) ∷ behind else code_onto most (s / CODES) ((33 + s % CODES) ∷ behind)
+
+-- ten are enough for a number of 64 bits
 abbrev pub signal_code : ℕ → List ℕ
-signal_code s = (if nat_lt s CODES then [] else (33 + s / CODES) ∷ []) ++ (33 + s % CODES) ∷ []
+signal_code s = code_onto CODE_BYTES s []
 
 -- Declarations
 
 abbrev pub declaration_text : List ℕ → ℕ → List ℕ → List ℕ
 declaration_text width s name = codes "$var wire " ++ width ++ codes " " ++ signal_code s ++ codes " " ++ name ++ codes " $end\n"
 
--- a scope of two signals
-abbrev pub scope_text : List ℕ → List ℕ → List ℕ → List ℕ
-scope_text name first second = codes "$scope module " ++ name ++ codes " $end\n" ++ first ++ second ++ codes "$upscope $end\n"
+-- a scope with these declarations of signals
+abbrev pub scope_text : List ℕ → List ℕ → List ℕ
+scope_text name signals = codes "$scope module " ++ name ++ codes " $end\n" ++ signals ++ codes "$upscope $end\n"
 
 -- its signals are the two that follow the time and those of the tasks before it
 abbrev pub task_scope : (ℕ → List ℕ) → ℕ → List ℕ
 task_scope name t =
-    scope_text (name t) (declaration_text (codes "3") (1 + 2 * t) (codes "state")) (declaration_text (codes "8") (2 + 2 * t) (codes "priority"))
+    scope_text (name t) (declaration_text (codes "3") (1 + 2 * t) (codes "state") ++ declaration_text (codes "8") (2 + 2 * t) (codes "priority"))
+
+-- Variables
+
+abbrev pub is_printing : ℕ → Bool
+is_printing c = nat_lt 32 c && nat_lt c 127
+
+abbrev pub is_printable : List ℕ → Bool
+is_printable name = nat_lt 0 (length name) && list_all is_printing name
+
+-- The name that was given: the standard has identifiers of letters, digits and underlines, and with other printable characters those that begin with `\`. What
+-- might break the file gives way to the number of the word.
+abbrev pub variable_name : Variable → List ℕ
+variable_name v =
+    if is_name v.name then v.name else (if is_printable v.name then codes "\\" ++ v.name else codes "WORD_" ++ decimal v.word)
+
+-- signed, so that viewers show it in decimal
+abbrev pub variable_text : ℕ → Variable → List ℕ
+variable_text s v = codes "$var integer 64 " ++ signal_code s ++ codes " " ++ variable_name v ++ codes " $end\n"
+
+-- the first of them has number s
+abbrev pub variables_text : ℕ → List Variable → List ℕ
+variables_text s [] = []
+variables_text s (v ∷ vs) = variable_text s v ++ variables_text (suc s) vs
+
+abbrev pub package_name : List ℕ → List ℕ
+package_name name = if is_name name then name else codes "PACKAGE"
+
+abbrev pub package_scope : (tasks : ℕ) → Option VariableScope → List ℕ
+package_scope tasks None = []
+package_scope tasks (Some s) = scope_text (package_name s.name) (variables_text (package_first tasks) s.variables)
+
+-- Objects
 
 abbrev pub numbered_name : ℕ → List ℕ
 numbered_name o = codes "OBJECT_" ++ decimal o
 
 -- a name that was given, where it is one that Ada allows
-abbrev pub name_or_number : ℕ → Option (List ℕ) → List ℕ
+abbrev pub name_or_number : ℕ → Option VariableScope → List ℕ
 name_or_number o None = numbered_name o
-name_or_number o (Some name) = if is_name name then name else numbered_name o
+name_or_number o (Some s) = if is_name s.name then s.name else numbered_name o
 
-abbrev pub object_name : List (List ℕ) → ℕ → List ℕ
-object_name names o = name_or_number o (slice_get names o)
+abbrev pub object_name : Scopes → ℕ → List ℕ
+object_name scopes o = name_or_number o (slice_get scopes.objects o)
 
--- its signals follow those of the tasks, of which there are so many, and of the objects before it
-abbrev pub object_scope : List (List ℕ) → ℕ → ℕ → List ℕ
-object_scope names tasks o =
-    scope_text (object_name names o) (declaration_text (codes "8") (1 + 2 * (tasks + o)) (codes "inside"))
-    (declaration_text (codes "8") (2 + 2 * (tasks + o)) (codes "queued"))
+-- its signals, the first of which has number s
+abbrev pub object_text : Scopes → (s : ℕ) → ℕ → List ℕ
+object_text scopes s o =
+    declaration_text (codes "8") s (codes "inside") ++ declaration_text (codes "8") (s + 1) (codes "queued") ++ variables_text (s + 2) (components scopes o)
+
+abbrev pub object_scope : Scopes → (tasks : ℕ) → ℕ → List ℕ
+object_scope scopes tasks o = scope_text (object_name scopes o) (object_text scopes (object_first scopes tasks o) o)
+
+-- All
 
 -- what a tick of the axis is
 abbrev pub axis_comment : Axis → List ℕ
@@ -70,12 +114,13 @@ preamble axis =
     ++ timescale axis
     ++ codes "$scope module run $end\n"
 
-abbrev pub declarations_text : Axis → List (List ℕ) → Sections → List ℕ
-declarations_text axis names i =
+abbrev pub declarations_text : Axis → Scopes → Sections → List ℕ
+declarations_text axis scopes i =
     preamble axis
     ++ declaration_text (codes "64") 0 (codes "time")
     ++ all_below (length i.tasks) (task_scope (names_of i).task)
-    ++ all_below (length i.objects) (object_scope names (length i.tasks))
+    ++ package_scope (length i.tasks) scopes.package_
+    ++ all_below (length i.objects) (object_scope scopes (length i.tasks))
     ++ codes "$upscope $end\n$enddefinitions $end\n"
 
 -- Values
@@ -111,19 +156,20 @@ comment_text last = codes "$comment " ++ last ++ codes "$end\n"
 abbrev pub step_text : ℕ → List ℕ → List ℕ → List ℕ
 step_text n old new = if bytes_eq old new then [] else tick_text n ++ changes_text 0 old new
 
-abbrev pub steps_text : Sections → List ScheduleLine → ℕ → List ℕ
-steps_text i schedule zero = []
-steps_text i schedule (suc n) = steps_text i schedule n ++ step_text (suc n) (values (code i schedule n).kernel) (values (code i schedule (suc n)).kernel)
+abbrev pub steps_text : Sections → Scopes → List ScheduleLine → ℕ → List ℕ
+steps_text i scopes schedule zero = []
+steps_text i scopes schedule (suc n) =
+    steps_text i scopes schedule n ++ step_text (suc n) (values scopes (code i schedule n)) (values scopes (code i schedule (suc n)))
 
 -- the end of the last world's tick
 abbrev pub ending_text : ℕ → List ℕ → List ℕ
 ending_text taken last = tick_text (taken + 1) ++ comment_text last
 
--- all that is written of a run within a bound, over its steps, where protected objects have these names
-abbrev pub waves_text : Sections → List (List ℕ) → List ScheduleLine → Bound → List ℕ
-waves_text i names schedule bound =
+-- all that is written of a run within a bound, over its steps, with the variables of these scopes
+abbrev pub waves_text : Sections → Scopes → List ScheduleLine → Bound → List ℕ
+waves_text i scopes schedule bound =
     let k = (code i schedule bound.steps).kernel in
-    declarations_text axes.Steps names i
-    ++ start_text 0 (values (code i schedule 0).kernel)
-    ++ steps_text i schedule bound.steps
+    declarations_text axes.Steps scopes i
+    ++ start_text 0 (values scopes (code i schedule 0))
+    ++ steps_text i scopes schedule bound.steps
     ++ ending_text (steps_taken i schedule bound.steps) (cut_line bound.cut (names_of i) k.outcome k.now)

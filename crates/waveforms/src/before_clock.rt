@@ -1,17 +1,15 @@
 //! The values of a run's signals at the end of an instant, by the machine after the clock has moved on from there.
-ghost use Rattle.std.specs.Prelude.{◌≡◌, ◌+◌, ◌*◌, ◌≤◌, ◌++◌, slice_get};
-ghost use Rattle.arrayvec.specs.ArrayVec.{array_vec_len};
-ghost use Rattle.base.specs.declared.limits.TheConstants.{TASKS};
+ghost use Rattle.std.specs.Prelude.{◌≡◌, ◌+◌, ◌*◌, ◌≤◌, ◌++◌, length, slice_get, vec_capacity, vec_len};
+ghost use Rattle.execution.specs.Held.{world_of};
 ghost use Rattle.kernel.specs.State.{inside};
 ghost use Rattle.tasking.specs.Held.{kernel_of, place_of};
 ghost use Rattle.waveforms.specs.Instants as instants;
-ghost use Rattle.waveforms.specs.Instants.{before_clock, waiting};
+ghost use Rattle.waveforms.specs.Instants.{waiting, waiting_world, world_before};
 ghost use Rattle.waveforms.specs.Signals as signals;
-ghost use Rattle.waveforms.specs.Signals.{all_below, object_values, state_number, task_values, values};
+ghost use Rattle.waveforms.specs.Signals.{all_below, object_first, shown_object, state_number, task_values};
 
-use crate::values::{Values, add_two, from_one, is_left, place_number};
-use arrayvec::ArrayVec;
-use base::limits::TASKS;
+use crate::scopes::Scopes;
+use crate::values::{add_two, add_variables, from_one, is_left, place_number};
 use clock::Delays;
 use dispatch::Ready;
 use machine::{Machine, Place};
@@ -59,11 +57,12 @@ fn inside_before<R: Ready, D: Delays>(machine: &Machine<'_, R, D>, object: u8) -
 }
 
 // Adds the values of the tasks' signals before the clock moved.
-fn add_tasks<R: Ready, D: Delays>(values: &mut Values, machine: &Machine<'_, R, D>)
-    requires { array_vec_len values.old ≤ 1 }
+fn add_tasks<R: Ready, D: Delays>(values: &mut Vec<u64>, machine: &Machine<'_, R, D>)
+    requires { vec_len values.old + 2 * length machine.now.image.tasks ≤ vec_capacity values.old }
     ensures items { let k = waiting (kernel_of machine.now.tasking) in
         values.new.items ≡ values.old.items ++ all_below k.partition.tasks (task_values k) }
-    ensures len { array_vec_len values.new ≤ 1 + 2 * TASKS }
+    ensures len { vec_len values.new ≡ vec_len values.old + 2 * length machine.now.image.tasks }
+    ensures capacity { vec_capacity values.new ≡ vec_capacity values.old }
 {
     for task in 0..machine.tasks() {
         let priority = u64::from(machine.active_of_actor(task));
@@ -72,27 +71,42 @@ fn add_tasks<R: Ready, D: Delays>(values: &mut Values, machine: &Machine<'_, R, 
 }
 
 // Adds the values of the objects' signals before the clock moved.
-fn add_objects<R: Ready, D: Delays>(values: &mut Values, machine: &Machine<'_, R, D>)
-    requires { array_vec_len values.old ≤ 1 + 2 * TASKS }
-    ensures items { let k = waiting (kernel_of machine.now.tasking) in
-        values.new.items ≡ values.old.items ++ all_below k.partition.objects (object_values k) }
+fn add_objects<R: Ready, D: Delays>(
+    values: &mut Vec<u64>,
+    machine: &Machine<'_, R, D>,
+    scopes: &Scopes,
+)
+    requires len { vec_len values.old ≡ object_first scopes.now (length machine.now.image.tasks) 0 }
+    requires room { object_first scopes.now (length machine.now.image.tasks) (length machine.now.image.objects) ≤ vec_capacity values.old }
+    ensures items { let w = waiting_world (world_of machine.now) in
+        values.new.items ≡ values.old.items ++ all_below w.kernel.partition.objects (shown_object scopes.now w) }
+    ensures len { vec_len values.new ≡ object_first scopes.now (length machine.now.image.tasks) (length machine.now.image.objects) }
+    ensures capacity { vec_capacity values.new ≡ vec_capacity values.old }
 {
     for object in 0..machine.objects() {
         let inside = from_one(inside_before(machine, object));
         add_two(values, inside, from_one(machine.queued(object)));
+        let words = machine.object_words(object);
+        add_variables(values, words, scopes.components(object));
     }
 }
 
-/// The values of all signals at this time (microseconds since the start), from which the clock has moved to where it is now.
-pub(crate) fn values_before_clock<R: Ready, D: Delays>(
+/// The values of all signals at this time (microseconds since the start), from which the clock has moved to where it is now, in place of other ones.
+pub(crate) fn read_values_before_clock<R: Ready, D: Delays>(
+    values: &mut Vec<u64>,
     machine: &Machine<'_, R, D>,
+    scopes: &Scopes,
     time: i64,
-) -> Values
-    ensures { result.items ≡ values (before_clock time (kernel_of machine.now.tasking)) }
+)
+    requires { object_first scopes.now (length machine.now.image.tasks) (length machine.now.image.objects) ≤ vec_capacity values.old }
+    ensures items { values.new.items ≡ signals.values scopes.now (world_before time (world_of machine.now)) }
+    ensures count { length values.new.items ≡ object_first scopes.now (length machine.now.image.tasks) (length machine.now.image.objects) }
+    ensures capacity { vec_capacity values.new ≡ vec_capacity values.old }
 {
-    let mut values = ArrayVec::new();
-    values.push(time.cast_unsigned());
-    add_tasks(&mut values, machine);
-    add_objects(&mut values, machine);
-    values
+    values.clear();
+    values.push_reserved(time.cast_unsigned());
+    add_tasks(values, machine);
+    let words = machine.plain_words();
+    add_variables(values, words, scopes.package_variables());
+    add_objects(values, machine, scopes);
 }

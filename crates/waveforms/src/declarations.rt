@@ -1,35 +1,35 @@
 //! The declarations before a dump.
-ghost use Rattle.std.specs.Prelude.{◌≡◌, ◌+◌, ◌*◌, ◌<◌, ◌≤◌, ◌++◌, IfOk, OnOk, length, slice_get};
+ghost use Rattle.std.specs.Prelude.{◌≡◌, ◌+◌, ◌*◌, ◌<◌, ◌≤◌, ◌++◌, IfOk, OnOk, codes, length, option_map, slice_get};
+ghost use Rattle.std.specs.List.{list_all};
 ghost use Rattle.arrayvec.specs.ArrayVec.{array_vec_len};
-ghost use Rattle.base.specs.declared.limits.TheConstants.{NAME_LIMIT, OBJECTS, TASKS};
+ghost use Rattle.base.specs.declared.limits.TheConstants.{NAME_LIMIT, TASKS};
 ghost use Rattle.image.specs.Texts.{name_of};
 ghost use Rattle.waveforms.specs.Signals.{all_below};
 ghost use Rattle.waveforms.specs.Waves as waves;
-ghost use Rattle.waveforms.specs.Waves.{declaration_text, declarations_text, object_scope, scope_text, task_scope};
+ghost use Rattle.waveforms.specs.Waves.{declaration_text, declarations_text, object_scope, object_text, package_scope, scope_text, task_scope, variable_text, variables_text};
 ghost use Rattle.waveforms.specs.declared.declarations.TheConstants.{DECLARATION_BYTES};
-ghost use Rattle.waveforms.specs.declared.values.TheConstants.{SIGNALS};
 
 use crate::axis::Axis;
-use crate::text::{put, signal_code};
-use crate::values::SIGNALS;
+use crate::scopes::{Scopes, Variable, VariableScope};
+use crate::text::{CODE_BYTES, put, signal_code};
+use crate::values::{after_object, sum};
 use arrayvec::ArrayVec;
 use base::Text;
-use base::limits::{NAME_LIMIT, OBJECTS, TASKS};
+use base::limits::{NAME_LIMIT, TASKS};
 use base::names::is_name;
 use image::{Image, Task};
 use itoa::Buffer;
 use machine::task_name;
 use std::alloc::{AllocError, Global};
 
-/// The most bytes of a signal's declaration.
-const DECLARATION_BYTES: usize = 30;
+/// The most bytes of the declaration of a signal of the kernel.
+const DECLARATION_BYTES: usize = 28 + CODE_BYTES;
 
-/// The most bytes of a scope with two signals.
+/// The most bytes of a scope with two of them.
 const SCOPE_BYTES: usize = 34 + NAME_LIMIT + 2 * DECLARATION_BYTES;
 
 // The declaration of a signal of so many bits.
 fn declaration(width: &[u8], signal: usize, name: &[u8]) -> ArrayVec<u8, DECLARATION_BYTES>
-    requires signal { signal < SIGNALS }
     requires width { length width.now ≤ 2 }
     requires name { length name.now ≤ 8 }
     ensures { result.items ≡ declaration_text width.now signal name.now }
@@ -50,7 +50,7 @@ fn scope(name: &[u8], first: &[u8], second: &[u8]) -> ArrayVec<u8, SCOPE_BYTES>
     requires name { length name.now ≤ NAME_LIMIT }
     requires first { length first.now ≤ DECLARATION_BYTES }
     requires second { length second.now ≤ DECLARATION_BYTES }
-    ensures { result.items ≡ scope_text name.now first.now second.now }
+    ensures { result.items ≡ scope_text name.now (first.now ++ second.now) }
 {
     let mut text = ArrayVec::new();
     put(&mut text, b"$scope module ");
@@ -77,46 +77,6 @@ fn task_scope(tasks: &[Task], task: u8) -> ArrayVec<u8, SCOPE_BYTES>
     )
 }
 
-// The name of an object that has none: its number.
-fn numbered_name(object: u8) -> ArrayVec<u8, NAME_LIMIT>
-    ensures { result.items ≡ waves.numbered_name object }
-{
-    let mut name = ArrayVec::new();
-    put(&mut name, b"OBJECT_");
-    put(&mut name, Buffer::new().format(object).as_bytes());
-    name
-}
-
-// The name of an object.
-fn object_name(names: &[Text], object: u8) -> ArrayVec<u8, NAME_LIMIT>
-    ensures { result.items ≡ waves.object_name names.now object }
-{
-    match names.get(usize::from(object)) {
-        Some(name) if is_name(name.as_bytes()) => {
-            let mut kept = ArrayVec::new();
-            put(&mut kept, name.as_bytes());
-            kept
-        }
-        _ => numbered_name(object),
-    }
-}
-
-// The scope of an object, where there are so many tasks.
-fn object_scope(names: &[Text], tasks: u8, object: u8) -> ArrayVec<u8, SCOPE_BYTES>
-    requires tasks { tasks ≤ TASKS }
-    requires object { object < OBJECTS }
-    ensures { result.items ≡ object_scope names.now tasks object }
-{
-    let before = 2 * (usize::from(tasks) + usize::from(object));
-    let inside = declaration(b"8", 1 + before, b"inside");
-    let queued = declaration(b"8", 2 + before, b"queued");
-    scope(
-        object_name(names, object).as_slice(),
-        inside.as_slice(),
-        queued.as_slice(),
-    )
-}
-
 // Adds the scopes of all tasks.
 fn add_tasks(text: &mut Vec<u8>, tasks: &[Task], count: u8) -> Result<(), AllocError>
     requires { count ≤ TASKS }
@@ -128,14 +88,170 @@ fn add_tasks(text: &mut Vec<u8>, tasks: &[Task], count: u8) -> Result<(), AllocE
     Ok(())
 }
 
-// Adds the scopes of all objects.
-fn add_objects(text: &mut Vec<u8>, names: &[Text], tasks: u8, count: u8) -> Result<(), AllocError>
-    requires tasks { tasks ≤ TASKS }
-    requires objects { count ≤ OBJECTS }
-    ensures { OnOk result (text.new.items ≡ text.old.items ++ all_below count (object_scope names.now tasks)) }
+// Whether no character would break the file.
+fn are_printing(name: &[u8]) -> bool
+    ensures { result ≡ list_all waves.is_printing name.now }
 {
+    name.iter().all(|byte| 32 < *byte && *byte < 127)
+}
+
+// Whether a name has characters, and none that would break the file.
+fn is_printable(name: &[u8]) -> bool
+    ensures { result ≡ waves.is_printable name.now }
+{
+    0 < name.len() && are_printing(name)
+}
+
+// Adds the name of a variable.
+fn add_variable_name(text: &mut Vec<u8>, variable: &Variable) -> Result<(), AllocError>
+    ensures { OnOk result (text.new.items ≡ text.old.items ++ waves.variable_name variable.now) }
+{
+    let name = variable.name();
+    if is_name(name) {
+        text.extend_from_slice(name)
+    } else if is_printable(name) {
+        text.extend_from_slice(b"\\")?;
+        text.extend_from_slice(name)
+    } else {
+        text.extend_from_slice(b"WORD_")?;
+        text.extend_from_slice(Buffer::new().format(variable.word()).as_bytes())
+    }
+}
+
+// Adds the declaration of a variable, which has this signal.
+fn add_variable(text: &mut Vec<u8>, signal: usize, variable: &Variable) -> Result<(), AllocError>
+    ensures { OnOk result (text.new.items ≡ text.old.items ++ variable_text signal variable.now) }
+{
+    text.extend_from_slice(b"$var integer 64 ")?;
+    text.extend_from_slice(signal_code(signal).as_slice())?;
+    text.extend_from_slice(b" ")?;
+    add_variable_name(text, variable)?;
+    text.extend_from_slice(b" $end\n")?;
+    Ok(())
+}
+
+// Adds the declarations of variables, the first of which has this signal.
+fn add_variables(text: &mut Vec<u8>, first: usize, variables: &[Variable]) -> Result<(), AllocError>
+    ensures { OnOk result (text.new.items ≡ text.old.items ++ variables_text first variables.now) }
+{
+    let mut signal = first;
+    for variable in variables {
+        add_variable(text, signal, variable)?;
+        signal = sum(signal, 1)?;
+    }
+    Ok(())
+}
+
+// Adds the beginning of a scope.
+fn begin_scope(text: &mut Vec<u8>, name: &[u8]) -> Result<(), AllocError>
+    ensures { OnOk result (text.new.items ≡ text.old.items ++ (codes "$scope module " ++ name.now ++ codes " $end\n")) }
+{
+    text.extend_from_slice(b"$scope module ")?;
+    text.extend_from_slice(name)?;
+    text.extend_from_slice(b" $end\n")?;
+    Ok(())
+}
+
+// Adds the end of a scope.
+fn end_scope(text: &mut Vec<u8>) -> Result<(), AllocError>
+    ensures { OnOk result (text.new.items ≡ text.old.items ++ codes "$upscope $end\n") }
+{
+    text.extend_from_slice(b"$upscope $end\n")?;
+    Ok(())
+}
+
+// The name of a package.
+fn package_name(name: &Text) -> &[u8]
+    ensures { result.now ≡ waves.package_name name.now }
+{
+    if is_name(name.as_bytes()) {
+        name.as_bytes()
+    } else {
+        b"PACKAGE"
+    }
+}
+
+// Adds the scope of the package, if there is one, where there are so many tasks.
+fn add_package(
+    text: &mut Vec<u8>,
+    tasks: u8,
+    scope: Option<&VariableScope>,
+) -> Result<(), AllocError>
+    ensures { OnOk result (text.new.items ≡ text.old.items ++ package_scope tasks (option_map (λ s. s.now) scope.entry)) }
+{
+    match scope {
+        None => Ok(()),
+        Some(scope) => {
+            begin_scope(text, package_name(scope.name()))?;
+            add_variables(text, 1 + 2 * usize::from(tasks), scope.variables())?;
+            end_scope(text)
+        }
+    }
+}
+
+// The name of an object that has none: its number.
+fn numbered_name(object: u8) -> ArrayVec<u8, NAME_LIMIT>
+    ensures { result.items ≡ waves.numbered_name object }
+{
+    let mut name = ArrayVec::new();
+    put(&mut name, b"OBJECT_");
+    put(&mut name, Buffer::new().format(object).as_bytes());
+    name
+}
+
+// The name of an object.
+fn object_name(scopes: &Scopes, object: u8) -> ArrayVec<u8, NAME_LIMIT>
+    ensures { result.items ≡ waves.object_name scopes.now object }
+{
+    match scopes.object(object) {
+        Some(scope) if is_name(scope.name().as_bytes()) => {
+            let mut kept = ArrayVec::new();
+            put(&mut kept, scope.name().as_bytes());
+            kept
+        }
+        _ => numbered_name(object),
+    }
+}
+
+// Adds the declarations of an object's signals, the first of which is this one.
+fn add_object_signals(
+    text: &mut Vec<u8>,
+    scopes: &Scopes,
+    first: usize,
+    object: u8,
+) -> Result<(), AllocError>
+    ensures { OnOk result (text.new.items ≡ text.old.items ++ object_text scopes.now first object) }
+{
+    text.extend_from_slice(declaration(b"8", first, b"inside").as_slice())?;
+    let second = sum(first, 1)?;
+    text.extend_from_slice(declaration(b"8", second, b"queued").as_slice())?;
+    add_variables(text, sum(first, 2)?, scopes.components(object))
+}
+
+// Adds the scope of an object, whose first signal is this one.
+fn add_object(
+    text: &mut Vec<u8>,
+    scopes: &Scopes,
+    first: usize,
+    object: u8,
+) -> Result<(), AllocError>
+    ensures { OnOk result (text.new.items ≡ text.old.items ++ scope_text (waves.object_name scopes.now object) (object_text scopes.now first object)) }
+{
+    begin_scope(text, object_name(scopes, object).as_slice())?;
+    add_object_signals(text, scopes, first, object)?;
+    end_scope(text)
+}
+
+// Adds the scopes of all objects, where there are so many tasks.
+fn add_objects(text: &mut Vec<u8>, scopes: &Scopes, tasks: u8, count: u8) -> Result<(), AllocError>
+    ensures { OnOk result (text.new.items ≡ text.old.items ++ all_below count (object_scope scopes.now tasks)) }
+{
+    let first = 1 + 2 * usize::from(tasks);
+    let mut signal = sum(first, scopes.package_variables().len())?;
     for object in 0..count {
-        text.extend_from_slice(object_scope(names, tasks, object).as_slice())?;
+        add_object(text, scopes, signal, object)?;
+        let next = after_object(scopes, signal, object)?;
+        signal = next;
     }
     Ok(())
 }
@@ -156,25 +272,25 @@ fn preamble(alloc: Global, axis: Axis) -> Result<Vec<u8>, AllocError>
     Ok(text)
 }
 
-/// The declarations of all signals for this axis, where the image has so many tasks and objects, and the objects these names.
+/// The declarations of all signals for this axis, where the image has so many tasks and objects.
 pub(crate) fn declarations(
     alloc: Global,
     axis: Axis,
     image: &Image,
-    names: &[Text],
+    scopes: &Scopes,
     tasks: u8,
     objects: u8,
 ) -> Result<Vec<u8>, AllocError>
     requires tasks { tasks ≡ length image.now.tasks }
     requires objects { objects ≡ length image.now.objects }
     requires few { tasks ≤ TASKS }
-    requires few_objects { objects ≤ OBJECTS }
-    ensures { IfOk result (λ text. text.items ≡ declarations_text axis names.now image.now) }
+    ensures { IfOk result (λ text. text.items ≡ declarations_text axis scopes.now image.now) }
 {
     let mut text = preamble(alloc, axis)?;
     text.extend_from_slice(declaration(b"64", 0, b"time").as_slice())?;
     add_tasks(&mut text, image.tasks(), tasks)?;
-    add_objects(&mut text, names, tasks, objects)?;
+    add_package(&mut text, tasks, scopes.package_())?;
+    add_objects(&mut text, scopes, tasks, objects)?;
     text.extend_from_slice(b"$upscope $end\n$enddefinitions $end\n")?;
     Ok(text)
 }

@@ -1,20 +1,21 @@
 //! Runs as value change dumps over virtual time.
-ghost use Rattle.std.specs.Prelude.{◌≡◌, ◌+◌, ◌<◌, ◌≤◌, Err, IfErr, IfOk, None, OnErr, OnOk, option_map};
+ghost use Rattle.std.specs.Prelude.{◌≡◌, ◌+◌, ◌<◌, ◌≤◌, Err, IfErr, IfOk, None, OnErr, OnOk, length};
 ghost use Rattle.std.specs.Io.KnownBytes.{Appends};
 ghost use Rattle.image.specs.Code.{code};
 ghost use Rattle.machine.specs.Stands.{EndsBy, HoldsWorld};
 ghost use Rattle.machine.specs.Written.{AppendsBeginning};
-ghost use Rattle.tasking.specs.Held.{kernel_of};
+ghost use Rattle.execution.specs.Held.{world_of};
 ghost use Rattle.waveforms.specs.Instants.{ended, ended_by, instants};
+ghost use Rattle.waveforms.specs.Signals.{object_first};
 ghost use Rattle.waveforms.specs.TimeWaves.{instants_text, time_waves_text};
-ghost use Rattle.waveforms.specs.LastValues.{dumped_after};
+ghost use Rattle.waveforms.specs.LastValues.{dumped_after, last_values};
 
 use crate::axis::Axis;
-use crate::before_clock::values_before_clock;
 use crate::declarations::declarations;
-use crate::text::{comment_text, instant_text};
-use crate::values::{Values, values_of};
-use base::Text;
+use crate::rows::Rows;
+use crate::scopes::Scopes;
+use crate::text::comment_text;
+use crate::values::signal_count;
 use clock::{Delays, HeapDelays, Schedule};
 use dispatch::{Ready, RingReady};
 use image::Image;
@@ -28,53 +29,52 @@ use std::sync::ledger::Ledger;
 fn write_ended<R: Ready, D: Delays, S: Sink>(
     time: i64,
     machine: &Machine<'_, R, D>,
-    dumped: &mut Option<Values>,
+    scopes: &Scopes,
+    rows: &mut Rows,
     sink: &mut S,
 ) -> Result<(), SinkError>
-    ensures dumped { OnOk result (option_map (λ v. v.items) dumped.new ≡ dumped_after (option_map (λ v. v.items) dumped.old)
-        (ended_by time (kernel_of machine.now.tasking))) }
+    requires { object_first scopes.now (length machine.now.image.tasks) (length machine.now.image.objects) ≡ rows.old.room }
+    ensures dumped { OnOk result (last_values rows.new ≡ dumped_after scopes.now (last_values rows.old) (ended_by time (world_of machine.now))) }
+    ensures room { rows.new.room ≡ rows.old.room }
     ensures whole { OnOk result (Appends (S.bytes sink.old) (S.bytes sink.new)
-        (instants_text (option_map (λ v. v.items) dumped.old) (ended_by time (kernel_of machine.now.tasking)))) }
+        (instants_text scopes.now (last_values rows.old) (ended_by time (world_of machine.now)))) }
     ensures kept { OnOk result (S.failures sink.new ≡ S.failures sink.old) }
     ensures failed { OnErr result (S.failures sink.old < S.failures sink.new) }
     ensures beginning { OnErr result (AppendsBeginning (S.bytes sink.old) (S.bytes sink.new)
-        (instants_text (option_map (λ v. v.items) dumped.old) (ended_by time (kernel_of machine.now.tasking)))) }
+        (instants_text scopes.now (last_values rows.old) (ended_by time (world_of machine.now)))) }
 {
     if machine.now() <= time {
         return Ok(());
     }
-    let values = values_before_clock(machine, time);
-    match write_all(
-        sink,
-        instant_text(time.unsigned_abs(), dumped, &values).as_slice(),
-    ) {
-        Ok(()) => {
-            *dumped = Some(values);
-            Ok(())
-        }
-        Err(error) => Err(error),
-    }
+    rows.ended(time, machine, scopes);
+    write_all(sink, rows.text())
 }
 
 // Takes steps up to an outcome, `limit` of them at most, and writes each instant that they end.
 fn write_all_ended<R: Ready, D: Delays, S: Sink, L: Ledger>(
     machine: &mut Machine<'_, R, D>,
+    scopes: &Scopes,
+    rows: &mut Rows,
     limit: u64,
-    dumped: &mut Option<Values>,
     sink: &mut S,
     steps: &mut Steps<L>,
 ) -> Result<Outcome, RunFault>
     requires stands { HoldsWorld machine.old (code machine.old.image machine.old.schedule 0) }
-    requires none { option_map (λ v. v.items) dumped.old ≡ None }
+    requires none { last_values rows.old ≡ None }
+    requires room { object_first scopes.now (length machine.old.image.tasks) (length machine.old.image.objects) ≡ rows.old.room }
     ensures stands { OnOk result (HoldsWorld machine.new (code machine.old.image machine.old.schedule limit)) }
-    ensures dumped { OnOk result (option_map (λ v. v.items) dumped.new ≡ dumped_after None (ended machine.old.image machine.old.schedule limit)) }
-    ensures text { OnOk result (Appends (S.bytes sink.old) (S.bytes sink.new) (instants_text None (ended machine.old.image machine.old.schedule limit))) }
+    ensures image { OnOk result (machine.new.image ≡ machine.old.image) }
+    ensures dumped { OnOk result (last_values rows.new
+        ≡ dumped_after scopes.now None (ended machine.old.image machine.old.schedule limit)) }
+    ensures room { OnOk result (rows.new.room ≡ rows.old.room) }
+    ensures text { OnOk result (Appends (S.bytes sink.old) (S.bytes sink.new)
+        (instants_text scopes.now None (ended machine.old.image machine.old.schedule limit))) }
     ensures ends { IfOk result (λ outcome. EndsBy outcome (code machine.old.image machine.old.schedule limit)) }
     ensures kept { OnOk result (S.failures sink.new ≡ S.failures sink.old) }
     ensures fault { IfErr result (λ fault. fault ≡ RunFault.Write) }
     ensures failed { OnErr result (S.failures sink.old < S.failures sink.new) }
     ensures beginning { OnErr result (AppendsBeginning (S.bytes sink.old) (S.bytes sink.new)
-        (instants_text None (ended machine.old.image machine.old.schedule limit))) }
+        (instants_text scopes.now None (ended machine.old.image machine.old.schedule limit))) }
     ensures count { steps.new ≤ steps.old + limit }
 {
     outcome_stays();
@@ -86,7 +86,7 @@ fn write_all_ended<R: Ready, D: Delays, S: Sink, L: Ledger>(
         let time = machine.now();
         machine.step(steps);
         taken += 1;
-        match write_ended(time, machine, dumped, sink) {
+        match write_ended(time, machine, scopes, rows, sink) {
             Ok(()) => {}
             Err(_) => return Err(RunFault::Write),
         }
@@ -97,34 +97,36 @@ fn write_all_ended<R: Ready, D: Delays, S: Sink, L: Ledger>(
 // Takes these steps, and writes all instants: the last one ends with the run.
 fn write_instants<R: Ready, D: Delays, S: Sink, L: Ledger>(
     machine: &mut Machine<'_, R, D>,
+    scopes: &Scopes,
+    rows: &mut Rows,
     limit: u64,
     sink: &mut S,
     steps: &mut Steps<L>,
 ) -> Result<Outcome, RunFault>
-    requires { HoldsWorld machine.old (code machine.old.image machine.old.schedule 0) }
-    ensures text { OnOk result (Appends (S.bytes sink.old) (S.bytes sink.new) (instants_text None (instants machine.old.image machine.old.schedule limit))) }
+    requires stands { HoldsWorld machine.old (code machine.old.image machine.old.schedule 0) }
+    requires none { last_values rows.old ≡ None }
+    requires room { object_first scopes.now (length machine.old.image.tasks) (length machine.old.image.objects) ≡ rows.old.room }
+    ensures text { OnOk result (Appends (S.bytes sink.old) (S.bytes sink.new)
+        (instants_text scopes.now None (instants machine.old.image machine.old.schedule limit))) }
     ensures ends { IfOk result (λ outcome. EndsBy outcome (code machine.old.image machine.old.schedule limit)) }
     ensures kept { OnOk result (S.failures sink.new ≡ S.failures sink.old) }
     ensures fault { IfErr result (λ fault. fault ≡ RunFault.Write) }
     ensures failed { OnErr result (S.failures sink.old < S.failures sink.new) }
-    ensures beginning { AppendsBeginning (S.bytes sink.old) (S.bytes sink.new) (instants_text None (instants machine.old.image machine.old.schedule limit)) }
+    ensures beginning { AppendsBeginning (S.bytes sink.old) (S.bytes sink.new)
+        (instants_text scopes.now None (instants machine.old.image machine.old.schedule limit)) }
     ensures count { steps.new ≤ steps.old + limit }
 {
-    let mut dumped = None;
-    let outcome = write_all_ended(machine, limit, &mut dumped, sink, steps)?;
-    let time = machine.now().unsigned_abs();
-    match write_all(
-        sink,
-        instant_text(time, &dumped, &values_of(machine)).as_slice(),
-    ) {
+    let outcome = write_all_ended(machine, scopes, rows, limit, sink, steps)?;
+    rows.instant(machine, scopes);
+    match write_all(sink, rows.text()) {
         Ok(()) => Ok(outcome),
         Err(_) => Err(RunFault::Write),
     }
 }
 
-/// Runs an image as `machine::run_within` does, with the same outcome, and writes the run as a value change dump over virtual time: an instant of it has the
-/// values at its end. Protected objects have these names; those that have none here, or no name that Ada allows, have their number. It takes at most as many
-/// steps as the bound has, which are counted.
+/// Runs an image as `machine::run_within` does, with the same outcome, and writes the run as a value change dump over virtual time, with the variables of these
+/// scopes: an instant of it has the values at its end. Protected objects that have no scope here, or no name that Ada allows, have their number. It takes at
+/// most as many steps as the bound has, which are counted.
 ///
 /// # Errors
 /// `Memory` where memory was refused, before anything is written; `Write` where a write failed, and what was written then is a beginning of the dump.
@@ -132,26 +134,28 @@ fn write_instants<R: Ready, D: Delays, S: Sink, L: Ledger>(
 pub fn time_waves<S: Sink, L: Ledger>(
     alloc: Global,
     image: &Image,
-    names: &[Text],
+    scopes: &Scopes,
     schedule: &Schedule,
     bound: Bound,
     sink: &mut S,
     steps: &mut Steps<L>,
 ) -> Result<Outcome, RunFault>
-    ensures text { OnOk result (Appends (S.bytes sink.old) (S.bytes sink.new) (time_waves_text image.now names.now schedule.now bound)) }
+    ensures text { OnOk result (Appends (S.bytes sink.old) (S.bytes sink.new) (time_waves_text image.now scopes.now schedule.now bound)) }
     ensures ends { IfOk result (λ outcome. EndsBy outcome (code image.now schedule.now bound.steps)) }
     ensures kept { OnOk result (S.failures sink.new ≡ S.failures sink.old) }
     ensures memory { result ≡ Err RunFault.Memory → sink.new ≡ sink.old }
     ensures failed { result ≡ Err RunFault.Write → S.failures sink.old < S.failures sink.new }
-    ensures beginning { AppendsBeginning (S.bytes sink.old) (S.bytes sink.new) (time_waves_text image.now names.now schedule.now bound) }
+    ensures beginning { AppendsBeginning (S.bytes sink.old) (S.bytes sink.new) (time_waves_text image.now scopes.now schedule.now bound) }
     ensures count { steps.new ≤ steps.old + bound.steps }
 {
     let mut machine: Machine<'_, RingReady, HeapDelays> = Machine::start(alloc, image, schedule)?;
+    let signals = signal_count(scopes, machine.tasks(), machine.objects())?;
+    let mut rows = Rows::new(alloc, signals)?;
     let start = declarations(
         alloc,
         Axis::Time,
         image,
-        names,
+        scopes,
         machine.tasks(),
         machine.objects(),
     )?;
@@ -159,7 +163,7 @@ pub fn time_waves<S: Sink, L: Ledger>(
         Ok(()) => {}
         Err(_) => return Err(RunFault::Write),
     }
-    let outcome = write_instants(&mut machine, bound.steps, sink, steps)?;
+    let outcome = write_instants(&mut machine, scopes, &mut rows, bound.steps, sink, steps)?;
     let last = cut_line(image, &outcome, bound.cut);
     match write_all(sink, comment_text(&last).as_slice()) {
         Ok(()) => Ok(outcome),

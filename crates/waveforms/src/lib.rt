@@ -5,9 +5,12 @@ mod axis;
 mod before_clock;
 mod declarations;
 mod instants;
+mod rows;
+mod scopes;
 mod text;
 mod values;
 mod waves_of;
 
 pub use instants::time_waves;
+pub use scopes::{Scopes, Variable, VariableScope};
 pub use waves_of::waves;

@@ -1,14 +1,12 @@
 //! The texts of values, of the start, of steps and of the end.
-ghost use Rattle.std.specs.Prelude.{◌≡◌, ◌+◌, ◌*◌, ◌<◌, ◌≤◌, ◌++◌, false, length, option_map};
+ghost use Rattle.std.specs.Prelude.{◌≡◌, ◌+◌, ◌*◌, ◌≤◌, ◌++◌, false, length, option_map, vec_capacity, vec_len};
 ghost use Rattle.std.specs.Fmt.{digits};
 ghost use Rattle.arrayvec.specs.ArrayVec.{array_vec_len};
-ghost use Rattle.waveforms.specs.Waves as waves;
 ghost use Rattle.waveforms.specs.TimeWaves.{instant_text};
+ghost use Rattle.waveforms.specs.Waves as waves;
 ghost use Rattle.waveforms.specs.Waves.{changes_text, comment_text, ending_text, start_text, tick_text, value_text, values_text};
-ghost use Rattle.waveforms.specs.declared.text.TheConstants.{FRONT_BYTES, TICK_BYTES, VALUE_BYTES};
-ghost use Rattle.waveforms.specs.declared.values.TheConstants.{SIGNALS};
+ghost use Rattle.waveforms.specs.declared.text.TheConstants.{FRONT_BYTES, STEP_BYTES, VALUE_BYTES};
 
-use crate::values::{SIGNALS, Values};
 use arrayvec::ArrayVec;
 use itoa::Buffer;
 use machine::{LINE_BYTES, LineText};
@@ -19,8 +17,11 @@ const FIRST_CODE: u8 = 33;
 /// How many characters codes are made of.
 const CODES: usize = 94;
 
+/// The most bytes of a code: 94 to the power of 10 is more than any number of 64 bits.
+pub(crate) const CODE_BYTES: usize = 10;
+
 /// The most bytes of a value's line: 64 digits, the code, and what is around these.
-const VALUE_BYTES: usize = 69;
+pub(crate) const VALUE_BYTES: usize = 77;
 
 /// The most bytes of a tick's line.
 const TICK_BYTES: usize = 42;
@@ -28,14 +29,14 @@ const TICK_BYTES: usize = 42;
 /// The most bytes before the values of the start.
 const FRONT_BYTES: usize = TICK_BYTES + 10;
 
-/// The most bytes of a step's text, or of the start's, whose end has 5.
-const STEP_BYTES: usize = FRONT_BYTES + SIGNALS * VALUE_BYTES + 5;
+/// The most bytes of a step's text, or of the start's, whose end has 5, beside the lines of values.
+pub(crate) const STEP_BYTES: usize = FRONT_BYTES + 5;
 
 /// The most bytes of a comment with a line of the run.
 const COMMENT_BYTES: usize = LINE_BYTES + 14;
 
-/// The text of a step.
-pub(crate) type StepText = ArrayVec<u8, STEP_BYTES>;
+/// The most bytes of the end.
+const ENDING_BYTES: usize = TICK_BYTES + COMMENT_BYTES;
 
 /// Appends the bytes, for which there is room.
 pub(crate) fn put<const ROOM: usize>(text: &mut ArrayVec<u8, ROOM>, bytes: &[u8])
@@ -44,6 +45,16 @@ pub(crate) fn put<const ROOM: usize>(text: &mut ArrayVec<u8, ROOM>, bytes: &[u8]
     ensures len { array_vec_len text.new ≡ array_vec_len text.old + length bytes.now }
 {
     let _ = text.try_extend_from_slice(bytes);
+}
+
+// Appends the bytes, for which there is room.
+fn append(text: &mut Vec<u8>, bytes: &[u8])
+    requires { vec_len text.old + length bytes.now ≤ vec_capacity text.old }
+    ensures items { text.new.items ≡ text.old.items ++ bytes.now }
+    ensures len { vec_len text.new ≡ vec_len text.old + length bytes.now }
+    ensures capacity { vec_capacity text.old ≤ vec_capacity text.new }
+{
+    let _ = text.extend_from_slice(bytes);
 }
 
 // A number in binary, without leading zeros.
@@ -63,21 +74,24 @@ fn binary(number: u64) -> ArrayVec<u8, 64>
 }
 
 /// The code of a signal.
-pub(crate) fn signal_code(signal: usize) -> ArrayVec<u8, 2>
-    requires { signal < SIGNALS }
+pub(crate) fn signal_code(signal: usize) -> ArrayVec<u8, CODE_BYTES>
     ensures { result.items ≡ waves.signal_code signal }
 {
     let mut code = ArrayVec::new();
-    if CODES <= signal {
-        code.push(FIRST_CODE + (signal / CODES) as u8);
+    let mut left = signal;
+    while code.len() < CODE_BYTES {
+        if left < CODES {
+            code.insert(0, FIRST_CODE + left as u8);
+            return code;
+        }
+        code.insert(0, FIRST_CODE + (left % CODES) as u8);
+        left /= CODES;
     }
-    code.push(FIRST_CODE + (signal % CODES) as u8);
     code
 }
 
 // The line of a signal's value.
 fn value_line(signal: usize, value: u64) -> ArrayVec<u8, VALUE_BYTES>
-    requires { signal < SIGNALS }
     ensures { result.items ≡ value_text signal value }
 {
     let mut line = ArrayVec::new();
@@ -90,27 +104,27 @@ fn value_line(signal: usize, value: u64) -> ArrayVec<u8, VALUE_BYTES>
 }
 
 // Appends the lines of all values.
-fn put_values(text: &mut StepText, values: &[u64])
-    requires room { array_vec_len text.old ≤ FRONT_BYTES }
-    requires few { length values.now ≤ SIGNALS }
+fn put_values(text: &mut Vec<u8>, values: &[u64])
+    requires { vec_len text.old + length values.now * VALUE_BYTES ≤ vec_capacity text.old }
     ensures items { text.new.items ≡ text.old.items ++ values_text 0 values.now }
-    ensures len { array_vec_len text.new ≤ FRONT_BYTES + SIGNALS * VALUE_BYTES }
+    ensures len { vec_len text.new ≤ vec_len text.old + length values.now * VALUE_BYTES }
+    ensures capacity { vec_capacity text.old ≤ vec_capacity text.new }
 {
     for signal in 0..values.len() {
-        put(text, value_line(signal, values[signal]).as_slice());
+        append(text, value_line(signal, values[signal]).as_slice());
     }
 }
 
 // Appends the lines of the values that are other ones than before.
-fn put_changes(text: &mut StepText, before: &[u64], after: &[u64])
-    requires room { array_vec_len text.old ≤ TICK_BYTES }
-    requires few { length after.now ≤ SIGNALS }
+fn put_changes(text: &mut Vec<u8>, before: &[u64], after: &[u64])
+    requires { vec_len text.old + length after.now * VALUE_BYTES ≤ vec_capacity text.old }
     ensures items { text.new.items ≡ text.old.items ++ changes_text 0 before.now after.now }
+    ensures capacity { vec_capacity text.old ≤ vec_capacity text.new }
 {
     let mut signal = 0;
     while signal < before.len() && signal < after.len() {
         if before[signal] != after[signal] {
-            put(text, value_line(signal, after[signal]).as_slice());
+            append(text, value_line(signal, after[signal]).as_slice());
         }
         signal += 1;
     }
@@ -127,36 +141,40 @@ fn tick_line(tick: u128) -> ArrayVec<u8, TICK_BYTES>
     line
 }
 
-/// The text of the start, at this tick: all values.
-pub(crate) fn start_text(tick: u64, values: &Values) -> StepText
-    ensures { result.items ≡ start_text tick values.now.items }
+/// Makes the text of the start, at this tick: all values.
+pub(crate) fn start_text(text: &mut Vec<u8>, tick: u64, values: &[u64])
+    requires { STEP_BYTES + length values.now * VALUE_BYTES ≤ vec_capacity text.old }
+    ensures items { text.new.items ≡ start_text tick values.now }
+    ensures capacity { vec_capacity text.old ≤ vec_capacity text.new }
 {
-    let mut text = ArrayVec::new();
-    put(&mut text, tick_line(u128::from(tick)).as_slice());
-    put(&mut text, b"$dumpvars\n");
-    put_values(&mut text, values.as_slice());
-    put(&mut text, b"$end\n");
-    text
+    text.clear();
+    append(text, tick_line(u128::from(tick)).as_slice());
+    append(text, b"$dumpvars\n");
+    put_values(text, values);
+    append(text, b"$end\n");
 }
 
-/// The text of a step that has changed values.
-pub(crate) fn changed_text(step: u64, before: &Values, after: &Values) -> StepText
-    ensures { result.items ≡ tick_text step ++ changes_text 0 before.now.items after.now.items }
+/// Makes the text of a tick with the values that have changed.
+pub(crate) fn changed_text(text: &mut Vec<u8>, tick: u64, before: &[u64], after: &[u64])
+    requires { STEP_BYTES + length after.now * VALUE_BYTES ≤ vec_capacity text.old }
+    ensures items { text.new.items ≡ tick_text tick ++ changes_text 0 before.now after.now }
+    ensures capacity { vec_capacity text.old ≤ vec_capacity text.new }
 {
-    let mut text = ArrayVec::new();
-    put(&mut text, tick_line(u128::from(step)).as_slice());
-    put_changes(&mut text, before.as_slice(), after.as_slice());
-    text
+    text.clear();
+    append(text, tick_line(u128::from(tick)).as_slice());
+    put_changes(text, before, after);
 }
 
-/// The text of an instant at this time (microseconds since the start), where these values were written last, if any were.
+/// Makes the text of an instant at this time (microseconds since the start), where these values were written last, if any were.
 #[inline(never)]
-pub(crate) fn instant_text(time: u64, dumped: &Option<Values>, values: &Values) -> StepText
-    ensures { result.items ≡ instant_text time (option_map (λ v. v.items) dumped.now) values.now.items }
+pub(crate) fn instant_text(text: &mut Vec<u8>, time: u64, dumped: Option<&[u64]>, values: &[u64])
+    requires { STEP_BYTES + length values.now * VALUE_BYTES ≤ vec_capacity text.old }
+    ensures items { text.new.items ≡ instant_text time (option_map (λ v. v.now) dumped.entry) values.now }
+    ensures capacity { vec_capacity text.old ≤ vec_capacity text.new }
 {
     match dumped {
-        None => start_text(time, values),
-        Some(dumped) => changed_text(time, dumped, values),
+        None => start_text(text, time, values),
+        Some(dumped) => changed_text(text, time, dumped, values),
     }
 }
 
@@ -172,7 +190,7 @@ pub(crate) fn comment_text(last: &LineText) -> ArrayVec<u8, COMMENT_BYTES>
 }
 
 /// The text of the end, after so many steps, with the last line of the run.
-pub(crate) fn ending_text(taken: u64, last: &LineText) -> StepText
+pub(crate) fn ending_text(taken: u64, last: &LineText) -> ArrayVec<u8, ENDING_BYTES>
     ensures { result.items ≡ ending_text taken last.now.items }
 {
     let mut text = ArrayVec::new();

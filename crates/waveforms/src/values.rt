@@ -1,33 +1,85 @@
 //! The values of a run's signals.
-ghost use Rattle.std.specs.Prelude.{◌≡◌, ◌+◌, ◌*◌, ◌<◌, ◌≤◌, ◌∷◌, [], ◌++◌, length, slice_get};
-ghost use Rattle.arrayvec.specs.ArrayVec.{array_vec_len};
-ghost use Rattle.base.specs.declared.limits.TheConstants.{OBJECTS, TASKS};
+ghost use Rattle.std.specs.Prelude.{◌≡◌, ◌+◌, ◌*◌, ◌<◌, ◌≤◌, ◌∷◌, [], ◌++◌, IfOk, length, slice_get, vec_capacity, vec_len};
 ghost use Rattle.kernel.specs.State.{inside};
+ghost use Rattle.execution.specs.Held.{world_of};
 ghost use Rattle.tasking.specs.Held.{kernel_of, place_of};
 ghost use Rattle.waveforms.specs.Signals as signals;
-ghost use Rattle.waveforms.specs.Signals.{all_below, is_left, object_values, state_number, task_values, values};
-ghost use Rattle.waveforms.specs.declared.values.TheConstants.{SIGNALS};
+ghost use Rattle.waveforms.specs.Signals.{all_below, components, is_left, object_first, shown_object, state_number, task_values, variable_values};
 
-use arrayvec::ArrayVec;
-use base::limits::{OBJECTS, TASKS};
+use crate::scopes::{Scopes, Variable};
 use clock::Delays;
 use dispatch::Ready;
 use machine::{Machine, Outcome, Place};
+use std::alloc::AllocError;
 
-/// The most signals: the time, and two of each task and of each protected object.
-pub(crate) const SIGNALS: usize = 1 + 2 * TASKS + 2 * OBJECTS;
+/// How many signals there are, where there are so many tasks and protected objects.
+///
+/// # Errors
+/// Where there are more than memory has places for.
+pub(crate) fn signal_count(scopes: &Scopes, tasks: u8, objects: u8) -> Result<usize, AllocError>
+    ensures { IfOk result (λ count. count ≡ object_first scopes.now tasks objects) }
+{
+    let first = 1 + 2 * usize::from(tasks);
+    let mut count = sum(first, scopes.package_variables().len())?;
+    for object in 0..objects {
+        let next = after_object(scopes, count, object)?;
+        count = next;
+    }
+    Ok(count)
+}
 
-/// The values of all signals, in the order in which these are declared.
-pub(crate) type Values = ArrayVec<u64, SIGNALS>;
+/// The number of the signal after those of an object, of which the first has this number.
+///
+/// # Errors
+/// Where it is larger than any memory.
+pub(crate) fn after_object(scopes: &Scopes, first: usize, object: u8) -> Result<usize, AllocError>
+    ensures { IfOk result (λ next. next ≡ first + 2 + length (components scopes.now object)) }
+{
+    let own = sum(first, 2)?;
+    sum(own, scopes.components(object).len())
+}
+
+/// A sum of signals.
+///
+/// # Errors
+/// Where it is larger than any memory.
+pub(crate) fn sum(left: usize, right: usize) -> Result<usize, AllocError>
+    ensures { IfOk result (λ sum. sum ≡ left + right) }
+{
+    left.checked_add(right).ok_or(AllocError)
+}
 
 /// Adds the values of a task's or an object's signals.
-pub(crate) fn add_two(values: &mut Values, first: u64, second: u64)
-    requires { array_vec_len values.old + 2 ≤ SIGNALS }
+pub(crate) fn add_two(values: &mut Vec<u64>, first: u64, second: u64)
+    requires { vec_len values.old + 2 ≤ vec_capacity values.old }
     ensures items { values.new.items ≡ values.old.items ++ (first ∷ second ∷ []) }
-    ensures len { array_vec_len values.new ≡ array_vec_len values.old + 2 }
+    ensures len { vec_len values.new ≡ vec_len values.old + 2 }
+    ensures capacity { vec_capacity values.new ≡ vec_capacity values.old }
 {
-    values.push(first);
-    values.push(second);
+    values.push_reserved(first);
+    values.push_reserved(second);
+}
+
+// The value of a variable, by the number of its word.
+fn word_value(words: &[i64], word: u16) -> u64
+    ensures { result ≡ signals.word_value words.now word }
+{
+    match words.get(usize::from(word)) {
+        None => 0,
+        Some(word) => word.cast_unsigned(),
+    }
+}
+
+/// Adds the values of variables among these words.
+pub(crate) fn add_variables(values: &mut Vec<u64>, words: &[i64], variables: &[Variable])
+    requires { vec_len values.old + length variables.now ≤ vec_capacity values.old }
+    ensures items { values.new.items ≡ values.old.items ++ variable_values words.now variables.now }
+    ensures len { vec_len values.new ≡ vec_len values.old + length variables.now }
+    ensures capacity { vec_capacity values.new ≡ vec_capacity values.old }
+{
+    for variable in variables {
+        values.push_reserved(word_value(words, variable.word()));
+    }
 }
 
 /// The number that stands for a task's place.
@@ -84,11 +136,12 @@ fn first_inside<R: Ready, D: Delays>(machine: &Machine<'_, R, D>, object: u8) ->
 }
 
 // Adds the values of the tasks' signals.
-fn add_tasks<R: Ready, D: Delays>(values: &mut Values, machine: &Machine<'_, R, D>)
-    requires { array_vec_len values.old ≤ 1 }
+fn add_tasks<R: Ready, D: Delays>(values: &mut Vec<u64>, machine: &Machine<'_, R, D>)
+    requires { vec_len values.old + 2 * length machine.now.image.tasks ≤ vec_capacity values.old }
     ensures items { values.new.items ≡ values.old.items
         ++ all_below (kernel_of machine.now.tasking).partition.tasks (task_values (kernel_of machine.now.tasking)) }
-    ensures len { array_vec_len values.new ≤ 1 + 2 * TASKS }
+    ensures len { vec_len values.new ≡ vec_len values.old + 2 * length machine.now.image.tasks }
+    ensures capacity { vec_capacity values.new ≡ vec_capacity values.old }
 {
     for task in 0..machine.tasks() {
         let priority = u64::from(machine.active_of_actor(task));
@@ -97,24 +150,41 @@ fn add_tasks<R: Ready, D: Delays>(values: &mut Values, machine: &Machine<'_, R, 
 }
 
 // Adds the values of the objects' signals.
-fn add_objects<R: Ready, D: Delays>(values: &mut Values, machine: &Machine<'_, R, D>)
-    requires { array_vec_len values.old ≤ 1 + 2 * TASKS }
+fn add_objects<R: Ready, D: Delays>(
+    values: &mut Vec<u64>,
+    machine: &Machine<'_, R, D>,
+    scopes: &Scopes,
+)
+    requires len { vec_len values.old ≡ object_first scopes.now (length machine.now.image.tasks) 0 }
+    requires room { object_first scopes.now (length machine.now.image.tasks) (length machine.now.image.objects) ≤ vec_capacity values.old }
     ensures items { values.new.items ≡ values.old.items
-        ++ all_below (kernel_of machine.now.tasking).partition.objects (object_values (kernel_of machine.now.tasking)) }
+        ++ all_below (kernel_of machine.now.tasking).partition.objects (shown_object scopes.now (world_of machine.now)) }
+    ensures len { vec_len values.new ≡ object_first scopes.now (length machine.now.image.tasks) (length machine.now.image.objects) }
+    ensures capacity { vec_capacity values.new ≡ vec_capacity values.old }
 {
     for object in 0..machine.objects() {
         let inside = from_one(first_inside(machine, object));
         add_two(values, inside, from_one(machine.queued(object)));
+        let words = machine.object_words(object);
+        add_variables(values, words, scopes.components(object));
     }
 }
 
-/// The values of all signals of a machine.
-pub(crate) fn values_of<R: Ready, D: Delays>(machine: &Machine<'_, R, D>) -> Values
-    ensures { result.items ≡ values (kernel_of machine.now.tasking) }
+/// The values of all signals of a machine, in place of other ones.
+pub(crate) fn read_values<R: Ready, D: Delays>(
+    values: &mut Vec<u64>,
+    machine: &Machine<'_, R, D>,
+    scopes: &Scopes,
+)
+    requires { object_first scopes.now (length machine.now.image.tasks) (length machine.now.image.objects) ≤ vec_capacity values.old }
+    ensures items { values.new.items ≡ signals.values scopes.now (world_of machine.now) }
+    ensures count { length values.new.items ≡ object_first scopes.now (length machine.now.image.tasks) (length machine.now.image.objects) }
+    ensures capacity { vec_capacity values.new ≡ vec_capacity values.old }
 {
-    let mut values = ArrayVec::new();
-    values.push(machine.now().cast_unsigned());
-    add_tasks(&mut values, machine);
-    add_objects(&mut values, machine);
-    values
+    values.clear();
+    values.push_reserved(machine.now().cast_unsigned());
+    add_tasks(values, machine);
+    let words = machine.plain_words();
+    add_variables(values, words, scopes.package_variables());
+    add_objects(values, machine, scopes);
 }

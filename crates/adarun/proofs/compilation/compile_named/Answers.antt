@@ -7,7 +7,7 @@ use Rattle.parser.specs.Parsing.{Derives}
 use Rattle.adarun.specs.Accepted.{CompilesAccepted, IsJudged, RefusesText, RefusesTree}
 use Rattle.adarun.specs.Naming.{imaged}
 use Rattle.adarun.proofs.Named.{of_fault, of_image}
-use Rattle.adarun.proofs.Compiling.{compiles, given, judged, judged_accepted, judged_legal, legal_given, misspelled, named_bodies, no_tree, numbered, parsed, refused_text, restricted_given, tells, unrestricted_text}
+use Rattle.adarun.proofs.Compiling.{compiles, given, judged, judged_accepted, judged_legal, legal_given, misspelled, named_bodies, named_scopes, no_tree, numbered, parsed, refused_text, restricted_given, tells, unrestricted_text}
 use Rattle.adarun.proofs.compilation.compile_named.Goals as goal
 
 pub returns-in_err-list-clause-refused : goal.returns-in_err-list-clause-refused
@@ -138,3 +138,12 @@ returns-clause-bodies c =
     let same = c.deref.ensures.value ∙ c.in_ok-list.ensures.complete is_tree.tokens is_tree.spells in
     lent ∙ c.in_ok-program.ensures.only tree (subst (Derives tree) (sym same) is_tree.derives))
     c.named_of.ensures.bodies
+
+pub returns-clause-scopes : goal.returns-clause-scopes
+returns-clause-scopes c =
+    let lent = ap program_tree (c.in_ok-accepted.ensures.same ∙ c.in_ok-checked.ensures.same ∙ c.new.ensures.same) in
+    named_scopes _ _ _
+    (λ tree is_tree.
+    let same = c.deref.ensures.value ∙ c.in_ok-list.ensures.complete is_tree.tokens is_tree.spells in
+    lent ∙ c.in_ok-program.ensures.only tree (subst (Derives tree) (sym same) is_tree.derives))
+    c.named_of.ensures.scopes

@@ -25,8 +25,8 @@ returns-in-Ok-write_named-clause-leaves g c contents source schedule read read_t
       outcome = c.in-Ok-write_named.outcome;
       status_is = refl;
       written = told_alike c.args.view (Appends (g.O.Sink.bytes c.args.out.now) (g.O.Sink.bytes c.write_named.new.out)) c.in-Ok.named.image c.in-Ok.named.places
-          c.in-Ok-read.schedule viewed.bound _ _ _ _ _ _ (ap names_alone c.in-Ok.ensures.means.names)
-          (c.in-Ok.ensures.bodies compiles.tree compiles.accepted.is_tree) refl viewed.written;
+          c.in-Ok-read.schedule viewed.bound _ _ _ _ _ _ _ _ (ap names_alone c.in-Ok.ensures.means.names)
+          (c.in-Ok.ensures.bodies compiles.tree compiles.accepted.is_tree) (c.in-Ok.ensures.scopes compiles.tree compiles.accepted.is_tree) refl viewed.written;
       ends = viewed.ends;
     })
 
@@ -52,8 +52,8 @@ returns-clause-leaves g c contents source schedule read read_too =
       bound = begun.bound;
       bounded = begun.bounded;
       begins = told_alike c.args.view (AppendsBeginning (g.O.Sink.bytes c.args.out.now) (g.O.Sink.bytes c.write_named.new.out)) c.in-Ok.named.image
-          c.in-Ok.named.places c.in-Ok-read.schedule begun.bound _ _ _ _ _ _ (ap names_alone c.in-Ok.ensures.means.names)
-          (c.in-Ok.ensures.bodies compiles.tree compiles.accepted.is_tree) refl begun.begins;
+          c.in-Ok.named.places c.in-Ok-read.schedule begun.bound _ _ _ _ _ _ _ _ (ap names_alone c.in-Ok.ensures.means.names)
+          (c.in-Ok.ensures.bodies compiles.tree compiles.accepted.is_tree) (c.in-Ok.ensures.scopes compiles.tree compiles.accepted.is_tree) refl begun.begins;
     }))
 
 pub returns-clause-sink : goal.returns-clause-sink

@@ -1,12 +1,11 @@
-use Rattle.std.proofs.Common.{◌≡◌, ◌+◌, ◌*◌, ◌≤◌, ◌++◌}
-use Rattle.arrayvec.specs.ArrayVec.{array_vec_len}
-use Rattle.base.specs.declared.limits.TheConstants.{TASKS}
-use Rattle.tasking.specs.Held.{kernel_of}
-use Rattle.waveforms.specs.Instants.{waiting}
-use Rattle.waveforms.specs.Signals.{all_below, object_values}
+use Rattle.std.proofs.Common.{◌≡◌, ◌++◌, length, vec_capacity, vec_len}
+use Rattle.execution.specs.Held.{world_of}
+use Rattle.waveforms.specs.Instants.{waiting_world}
+use Rattle.waveforms.specs.Signals.{all_below, object_first, shown_object}
 use Rattle.waveforms.proofs.before_clock.add_objects.Given as goal
 
 abbrev pub invariant-loop-object : goal.invariant-loop-object
 invariant-loop-object g l =
-    (l.values.items ≡ l.fn.values.items ++ all_below l.object (object_values (waiting (kernel_of l.fn.machine.tasking))))
-    × (array_vec_len l.values ≤ 1 + 2 * TASKS + 2 * l.object)
+    (l.values.items ≡ l.fn.values.items ++ all_below l.object (shown_object l.fn.scopes (waiting_world (world_of l.fn.machine))))
+    × (vec_len l.values ≡ object_first l.fn.scopes (length l.fn.machine.image.tasks) l.object)
+    × (vec_capacity l.values ≡ vec_capacity l.fn.values)

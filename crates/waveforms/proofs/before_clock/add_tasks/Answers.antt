@@ -16,4 +16,5 @@ loop-task-preserved g c =
     let priority = c.from-priority.ensures ∙ c.active_of_actor.ensures ∙ sym (priority_before k c.loop-task.task less) in (
       one_added _ _ _ (task_values (waiting k)) c.loop-task.task _ c.loop-task.invariant.0 c.add_two.ensures.items (λ j. state j ∷ priority j ∷ []),
       omega (arith, c.add_two.ensures.len, c.loop-task.invariant.1),
+      c.add_two.ensures.capacity ∙ c.loop-task.invariant.2,
     )

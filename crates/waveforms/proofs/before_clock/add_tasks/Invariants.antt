@@ -1,5 +1,4 @@
-use Rattle.std.proofs.Common.{◌≡◌, ◌+◌, ◌*◌, ◌≤◌, ◌++◌}
-use Rattle.arrayvec.specs.ArrayVec.{array_vec_len}
+use Rattle.std.proofs.Common.{◌≡◌, ◌+◌, ◌*◌, ◌++◌, vec_capacity, vec_len}
 use Rattle.tasking.specs.Held.{kernel_of}
 use Rattle.waveforms.specs.Instants.{waiting}
 use Rattle.waveforms.specs.Signals.{all_below, task_values}
@@ -8,4 +7,5 @@ use Rattle.waveforms.proofs.before_clock.add_tasks.Given as goal
 abbrev pub invariant-loop-task : goal.invariant-loop-task
 invariant-loop-task g l =
     (l.values.items ≡ l.fn.values.items ++ all_below l.task (task_values (waiting (kernel_of l.fn.machine.tasking))))
-    × (array_vec_len l.values ≤ 1 + 2 * l.task)
+    × (vec_len l.values ≡ vec_len l.fn.values + 2 * l.task)
+    × (vec_capacity l.values ≡ vec_capacity l.fn.values)

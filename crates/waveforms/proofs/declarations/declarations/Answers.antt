@@ -4,7 +4,7 @@ use Rattle.std.specs.Prelude.{◌-◌, if◌then◌else◌}
 use Rattle.image.specs.Texts.{name_of, names_of}
 use Rattle.kernel.specs.Interrupts.{interrupt_name}
 use Rattle.waveforms.specs.Signals.{all_below}
-use Rattle.waveforms.specs.Waves.{declaration_text, object_scope, preamble, task_scope}
+use Rattle.waveforms.specs.Waves.{declaration_text, object_scope, package_scope, preamble, task_scope}
 use Rattle.waveforms.proofs.Added.{below_same}
 use Rattle.waveforms.proofs.declarations.declarations.Goals as goal
 
@@ -22,5 +22,6 @@ returns c =
     let tasks = c.in_ok-add_tasks.ensures
     ∙ (λ j. time j ++ all_below (c.requires.tasks j) (task_scope (λ t. name_of (slice_get (c.tasks.ensures.same j) t))))
     ∙ ap (λ v. preamble c.args.axis ++ declaration_text (codes "64") 0 (codes "time") ++ v) scopes in
-    let objects = c.in_ok-add_objects.ensures ∙ (λ j. tasks j ++ all_below (c.requires.objects j) (object_scope c.args.names.now (c.requires.tasks j))) in
+    let variables = c.in_ok-add_package.ensures ∙ (λ j. tasks j ++ package_scope (c.requires.tasks j) (c.package_.ensures j)) in
+    let objects = c.in_ok-add_objects.ensures ∙ (λ j. variables j ++ all_below (c.requires.objects j) (object_scope c.args.scopes.now (c.requires.tasks j))) in
     c.in_ok-extend_from_slice-2.ensures.items ∙ ap (λ v. v ++ codes "$upscope $end\n$enddefinitions $end\n") objects

@@ -1,0 +1,4 @@
+mod Examples
+mod Lists
+mod PartsListed
+mod Walked

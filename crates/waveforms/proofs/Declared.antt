@@ -1,0 +1,29 @@
+-- Declarations of variables and scopes, added one after the other.
+use Rattle.std.proofs.Common.{◌≡◌, ◌<◌, ℕ, suc, ◌+◌, List, ◌∷◌, ◌++◌, codes, drop, length, sym, ap, ◌∙◌, arith, append_assoc}
+use Rattle.std.specs.Prelude.{get_or}
+use Rattle.std.proofs.lemmas.List.{drop_more}
+use Rattle.waveforms.specs.Scopes.{Variable}
+use Rattle.waveforms.specs.Waves.{scope_text, variable_text, variables_text}
+use Rattle.waveforms.proofs.Added.{both_added}
+
+-- where the declarations of the variables that are left are still to come, and the next one is added
+pub variables_next : (old text new : List ℕ) (first s t : ℕ) (all : List Variable) (i : ℕ) (v : Variable) → i < length all → v ≡ get_or all i v
+    → (text ++ variables_text s (drop i all) ≡ old ++ variables_text first all) × (s ≡ first + i) → new ≡ text ++ variable_text s v → t ≡ s + 1
+    → (new ++ variables_text t (drop (i + 1) all) ≡ old ++ variables_text first all) × (t ≡ first + (i + 1))
+variables_next old text new first s t all i v less is so_far added t_is =
+    let here : drop i all ≡ v ∷ drop (i + 1) all = drop_more all i v less ∙ ap (λ x. x ∷ drop (i + 1) all) (sym is) in
+    let more : t ≡ suc s = t_is ∙ omega arith in (
+      (λ j. added j ++ variables_text (more j) (drop (i + 1) all))
+          ∙ append_assoc text (variable_text s v) (variables_text (suc s) (drop (i + 1) all))
+          ∙ ap (λ l. text ++ variables_text s l) (sym here)
+          ∙ so_far.0,
+      t_is ∙ ap (λ n. n + 1) so_far.1 ∙ omega arith,
+    )
+
+-- a scope of this name, which was begun, with these declarations, before its end
+pub scope_added : (old begun declared given name signals : List ℕ) → given ≡ name → begun ≡ old ++ (codes "$scope module " ++ given ++ codes " $end\n")
+    → declared ≡ begun ++ signals → declared ++ codes "$upscope $end\n" ≡ old ++ scope_text name signals
+scope_added old begun declared given name signals same one two =
+    let head = codes "$scope module " ++ name ++ codes " $end\n" in
+    ap (λ l. l ++ codes "$upscope $end\n") (both_added old begun declared head signals (one ∙ ap (λ n. old ++ (codes "$scope module " ++ n ++ codes " $end\n")) same) two)
+    ∙ append_assoc old (head ++ signals) (codes "$upscope $end\n")
