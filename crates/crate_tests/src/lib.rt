@@ -1,5 +1,5 @@
-//! Tests of what the machine and its keepers do beyond what the program runs: lists as well as rings and a heap, and each step by itself; and whether
-//! exclusion holds after a step.
+//! Tests of what the machine and its keepers do beyond what the program runs: lists as well as rings and a heap, and each step by itself; whether
+//! exclusion holds after a step; and of the parser of whole Ada.
 #![tactic(auto)]
 
 ghost use Rattle.std.specs.Prelude.{◌≡◌};
@@ -11,5 +11,7 @@ mod changed_images;
 pub mod exclusion;
 #[cfg(test)]
 mod keepers;
+#[cfg(test)]
+mod parsed_texts;
 #[cfg(test)]
 mod worked_images;

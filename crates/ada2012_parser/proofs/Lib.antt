@@ -1,0 +1,4 @@
+pub mod Between
+pub mod Places
+pub mod Readings
+pub mod Wholes

@@ -1,0 +1,5 @@
+use Rattle.ada2012_parser.proofs.Readings.{any, pass_some}
+use Rattle.ada2012_parser.proofs.parser.Parser.modular_type.Goals as goal
+
+pub returns : goal.returns
+returns c = pass_some c.in_ok-word.ensures (any c.in_ok-modulus.ensures)

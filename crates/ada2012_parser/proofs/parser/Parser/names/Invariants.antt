@@ -1,0 +1,11 @@
+use Rattle.std.proofs.Common.{length, map}
+use Rattle.ada2012_tree.specs.Spans.{trees_of}
+use Rattle.ada2012_tree.specs.ExpressionSpans.{name_spans}
+use Rattle.ada2012_parser.specs.Reading.{ReadsSome, here}
+use Rattle.ada2012_parser.proofs.parser.Parser.names.Given as goal
+
+abbrev pub invariant-loop-self : goal.invariant-loop-self
+invariant-loop-self l = ReadsSome (here l.fn.self) l.fn.self l.self (trees_of (map name_spans l.all.items))
+
+abbrev pub decreases-loop-self : goal.decreases-loop-self
+decreases-loop-self l = length l.self.rest.now

@@ -1,0 +1,8 @@
+use Rattle.std.proofs.Common.{refl}
+use Rattle.ada2012_parser.proofs.Readings.{any, ended_some, node, pass_some}
+use Rattle.ada2012_parser.proofs.parser.Parser.return_.Goals as goal
+
+pub returns : goal.returns
+returns c =
+    node c.here-start.ensures c.since.ensures.start c.since.ensures.end_ refl (pass_some c.in_ok-word.ensures (any (ended_some c.in_ok-value.ensures
+    c.in_ok-mark.ensures)))

@@ -1,0 +1,8 @@
+use Rattle.std.proofs.Common.{refl}
+use Rattle.ada2012_parser.proofs.Readings.{add_passed, any, any_some, ended_some, node, one, pass_any_some}
+use Rattle.ada2012_parser.proofs.parser.Parser.task_declaration.Goals as goal
+
+pub returns : goal.returns
+returns c =
+    node refl c.since.ensures.start c.since.ensures.end_ refl (add_passed c.requires (pass_any_some c.in_ok-form.ensures (one c.in_ok-name.ensures (any
+    (any_some c.in_ok-discriminants.ensures (any_some c.in_ok-aspects.ensures (ended_some c.in_ok-pragmas.ensures c.in_ok-mark.ensures)))))))

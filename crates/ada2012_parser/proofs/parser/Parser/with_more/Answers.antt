@@ -1,0 +1,5 @@
+use Rattle.ada2012_parser.proofs.Readings.{any}
+use Rattle.ada2012_parser.proofs.parser.Parser.with_more.Goals as goal
+
+pub returns : goal.returns
+returns c = any c.in_ok-word.ensures

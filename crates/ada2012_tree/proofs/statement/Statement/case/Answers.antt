@@ -1,0 +1,7 @@
+use Rattle.std.proofs.Common.{rules}
+use Rattle.ada2012_tree.specs.declared.statement.Statement as statements
+use Rattle.ada2012_tree.proofs.StatementRows.{row_alternatives}
+use Rattle.ada2012_tree.proofs.statement.Statement.case.Goals as goal
+
+pub returns : goal.returns
+returns c = search (rules, row_alternatives, statements.the_lemmas)

@@ -1,0 +1,6 @@
+pub mod Spans
+pub mod ExpressionSpans
+pub mod SubtypeSpans
+pub mod DeclarationSpans
+pub mod StatementSpans
+pub mod ProgramSpans
