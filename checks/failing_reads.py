@@ -127,6 +127,7 @@ CALLS = [
     (["trace", "--svg", "main.adb", "lines", "100000"], ["main.adb", "lines"]),
     (["measure", "main.adb", "lines", "100000"], ["main.adb", "lines"]),
     (["measure", "--tsv", "main.adb", "lines", "100000"], ["main.adb", "lines"]),
+    (["measure", "main.adb", "choices", "20000", "100000"], ["main.adb", "choices"]),
     (["search", "main.adb", "choices", "20000", "1000"], ["main.adb", "choices"]),
     (["search", "-", "choices", "20000", "1000"], ["-", "choices"]),
     (["search", "--quiet", "main.adb", "choices", "20000", "1000", "waits", "--part", "1/2"], ["main.adb", "choices"]),

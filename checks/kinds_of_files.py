@@ -46,6 +46,8 @@ COMMANDS = [
     ("source", ["trace", "--chart", FILE, "lines", "100000"]),
     ("source", ["trace", "--svg", FILE, "lines", "100000"]),
     ("source", ["measure", FILE, "lines", "100000"]),
+    ("source", ["measure", FILE, "choices", "20000", "1000"]),
+    ("choices", ["measure", "source", FILE, "20000", "1000"]),
     ("source", ["search", FILE, "choices", "20000", "1000"]),
     ("choices", ["search", "source", FILE, "20000", "1000"]),
     ("faulty", ["trace", FILE, "lines", "1"]),

@@ -5,17 +5,20 @@ bench/reference.py leads their images through.
     measures.py PROGRAM FOLDER EXAMPLES SCRATCH
 
 FOLDER has the tables of rows.py, of which all count whose sources are compiled; EXAMPLES has programs NAME.adb, some with a NAME.schedule, and what is measured of
-some of them, NAME.measure. Each source is measured again up to the half of its last time.
+some of them, NAME.measure. Each source is measured again up to the half of its last time. And of the examples that are searched (searches.py) it compares what is
+written of the runs on a set of at most 64 schedules, made with a fixed seed, with the greatest and least values of the reference's runs, one after the other.
 
     measures.py --of PROGRAM SOURCE [SCHEDULE]      writes the table for a source, by the reference, whose image the program makes
 """
 import os
+import random
 import sys
 import tempfile
 from bisect import bisect_right
 
 sys.path.insert(0, os.path.dirname(os.path.abspath(__file__)))
 from calling import called  # noqa: E402
+from searches import PROGRAMS, random_set, schedules_of, slots_of  # noqa: E402
 from traces import ALL_STEPS, STEPS, examples_of, objects_of, read, rows_of, world_of, write  # noqa: E402
 
 sys.path.insert(0, os.path.join(os.path.dirname(os.path.abspath(__file__)), "..", "bench"))
@@ -27,7 +30,13 @@ FRAMES_HEADING = "\n   frames     words task\n"
 OBJECTS_HEADING = "\n  ceiling     calls    queued object\n"
 USAGES_HEADING = "\n    calls   longest task object\n"
 INSTANTS_HEADING = "\n    steps at time\n"
+SET_HEADING = "    value  schedule measure\n"
 HERE = ("ready", "running")
+# The measures of a task or handler, in the order in which they are counted below, and whether the greatest value is asked for or the least.
+OF_ACTORS = [
+    ("jobs", max), ("steps", max), ("least steps", min), ("most steps", max), ("response", max), ("blocking", max), ("preemptions", max), ("queued calls", max),
+    ("longest wait", max), ("total wait", max), ("late delays", max), ("lateness", max), ("least distance", min), ("frames", max), ("words", max),
+]
 
 
 class Actor:
@@ -156,6 +165,23 @@ class Measures:
         most = max((steps for steps, _ in self.instants), default=0)
         yield INSTANTS_HEADING, [("instant", [most], [next((time for steps, time in self.instants if steps == most), 0)])]
 
+    def values(self):
+        """What is measured: what a row of it is about, its name, whose it is, whether the greatest or the least is asked for, and the value, if there is one."""
+        world = self.world
+        for number, (task, actor) in enumerate(zip(world.everyone, self.actors)):
+            has_run = number < len(world.tasks) or actor.jobs
+            frames = [max(actor.frames, default=int(number < len(world.tasks))), max(actor.words, default=0)]
+            for (measure, best), value in zip(OF_ACTORS, [*actor.work(self.blocking(task.base)), *actor.waiting(), *frames]):
+                yield "task", measure, [task.name], best, value if has_run and value != "-" else None
+        for o, numbers in enumerate(self.objects):
+            for measure, value in zip(("calls", "queued calls"), numbers):
+                yield "object", measure, [world.object(o)], max, value
+        for task, usages in zip(world.everyone, self.usages):
+            for o, usage in enumerate(usages):
+                yield "inside", "calls", [task.name, world.object(o)], max, usage.calls
+                yield "inside", "longest action", [task.name, world.object(o)], max, usage.longest()
+        yield "instant", "steps at one time", [], max, max((steps for steps, _ in self.instants), default=0)
+
     def table(self):
         tables = (heading + "".join("".join(f"{number:>9} " for number in numbers) + " ".join(map(str, names)) + "\n" for _, numbers, names in rows) for heading, rows in self.rows())
         return "".join(tables) + self.last + "\n"
@@ -163,6 +189,34 @@ class Measures:
     def fields(self):
         text = "".join("\t".join(map(str, [about, *numbers, *names])) + "\n" for _, rows in self.rows() for about, numbers, names in rows)
         return text + self.last + "\n"
+
+
+class SetMeasures:
+    """What is measured of the runs on some schedules: rows of a value, the number of the first schedule that gives it, and what it is of."""
+
+    def __init__(self, schedules, runs):
+        self.schedules, self.rows, self.cut = schedules, [], sum(run.last.startswith("step limit") for run in runs)
+        for column in zip(*(run.values() for run in runs)):
+            about, measure, names, best, _ = column[0]
+            values = [(row[-1], number) for number, row in enumerate(column, 1) if row[-1] is not None]
+            value = best((value for value, _ in values), default=0)
+            if value > 0 or (best is min and values):
+                self.rows.append((about, value, next(number for other, number in values if other == value), measure, names))
+        self.shown = sorted({number for _, _, number, _, _ in self.rows})
+        self.status = STATUSES["step"] if self.cut else 0
+
+    def last(self):
+        return f"{len(self.schedules)} schedules" + (f", {self.cut} cut by the limit on steps" if self.cut else "") + "\n"
+
+    def table(self):
+        rows = (f"{value:>9} {number:>9} {measure}{''.join(f' {word} {name}' for word, name in zip(('of', 'at'), names))}\n" for _, value, number, measure, names in self.rows)
+        shown = (f"\nschedule {number}\n{self.schedules[number - 1]}" for number in self.shown)
+        return "".join([SET_HEADING, *rows, *shown, "\n", self.last()])
+
+    def fields(self):
+        rows = ("\t".join(map(str, [about, value, number, measure, *names])) + "\n" for about, value, number, measure, names in self.rows)
+        shown = ("\t".join(["schedule", str(number), *line.split()]) + "\n" for number in self.shown for line in self.schedules[number - 1].splitlines())
+        return "".join([*rows, *shown, self.last()])
 
 
 class Comparer:
@@ -175,10 +229,11 @@ class Comparer:
     def world_of(self, source, schedule):
         return world_of(self.program, self.folder, source, schedule, objects_of(source))
 
-    def compare(self, name, expected, *words):
+    def compare(self, name, expected, *words, status=None):
         run = called([self.program, "measure", *words], self.folder)
         self.texts += 1
-        if (run.stdout.decode(), run.stderr, run.returncode) != (expected, b"", STATUSES[expected.splitlines()[-1].split()[0]]):
+        status = STATUSES[expected.splitlines()[-1].split()[0]] if status is None else status
+        if (run.stdout.decode(), run.stderr, run.returncode) != (expected, b"", status):
             first = next((pair for pair in zip(run.stdout.decode().splitlines(), expected.splitlines()) if pair[0] != pair[1]), None)
             self.wrong.append(f"{name}: {words}: status {run.returncode}, {run.stderr!r}; they differ first in {first}")
 
@@ -192,6 +247,17 @@ class Comparer:
         for measures, words in ((whole, []), (timed, ["--until", str(until)])):
             self.compare(name, measures.table(), "main.adb", "input", str(STEPS), *words)
             self.compare(name, measures.fields(), "--tsv", "main.adb", "input", str(STEPS), *words)
+
+
+    def measure_set(self, name, source, text, until, limit):
+        """Measures a source on each schedule of a set, up to a time and with a limit on the steps of each run, in both forms."""
+        schedules = list(schedules_of(slots_of(text, until)))
+        measures = SetMeasures(schedules, [Measures(self.world_of(source, schedule.encode()), limit, until) for schedule in schedules])
+        for file, content in (("main.adb", source), ("choices", text.encode())):
+            write(os.path.join(self.folder, file), content)
+        words = ["main.adb", "choices", str(until), str(limit)]
+        self.compare(f"{name} on a set", measures.table(), *words, status=measures.status)
+        self.compare(f"{name} on a set", measures.fields(), "--tsv", *words, status=measures.status)
 
 
 def table_of(program, source, schedule):
@@ -216,9 +282,14 @@ def main():
         stored = os.path.join(examples, f"{name}.measure")
         if os.path.exists(stored):
             comparer.compare(name, read(stored).decode(), "main.adb", "input", str(ALL_STEPS))
+    rng = random.Random(17)
+    for name, (channels, step, _) in PROGRAMS.items():
+        text, until = random_set(rng, channels, step)
+        for limit in (STEPS, 60):
+            comparer.measure_set(name, read(os.path.join(examples, name)), text, until, limit)
     for told in comparer.wrong:
         print(f"measures: {told}", file=sys.stderr)
-    print(f"measures: {sources} sources, {comparer.texts} texts, {len(comparer.wrong)} wrong")
+    print(f"measures: {sources} sources, {len(PROGRAMS)} of them on sets of schedules, {comparer.texts} texts, {len(comparer.wrong)} wrong")
     sys.exit(1 if comparer.wrong or not comparer.texts else 0)
 
 

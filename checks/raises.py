@@ -44,15 +44,13 @@ def rows_of(lines):
             told = []
             for words in raises.split(", "):
                 words, number = words.rsplit(" ", 1)
-                told.append((words, None if number == "nowhere" else place_of_mark(marked, "^" + number, without_marks)))
+                told.append((words, place_of_mark(marked, "^" + number, without_marks)))
             yield without_marks(marked), told
 
 
 def shown(source, text, told):
     """What is said of the raise that ended the run, the last one that isn't one at a call; of a long line what is near the place."""
     name, place = [(words, place) for words, place in told if not words.endswith(" at its call")][-1]
-    if place is None:
-        return ""
     line, column = map(int, place.split(":"))
     here = text.split("\n")[line - 1]
     front, back = here[: column - 1], here[column - 1 :]
@@ -73,7 +71,7 @@ def main():
             file.write(text)
         traced, ran = (subprocess.run(words, capture_output=True, text=True, check=False) for words in ([program, "trace", source, "/dev/null", "10000"], [run, source]))
         found = re.findall(r"^\d+ \d+ \w+ raises (.*)$", traced.stdout, re.M)
-        expected = [words + (f" at {place}" if place else "") for words, place in told]
+        expected = [f"{words} at {place}" for words, place in told]
         ending = shown(source, text, told) if re.search(r"^unhandled ", traced.stdout, re.M) else ""
         if (found, traced.stderr, ran.stderr) != (expected, "", ending):
             wrong += 1

@@ -141,6 +141,7 @@ def calls_of_commands(program, folder):
         ("measure", ["measure", "main.adb", "input", "1000"], files, None),
         ("measure --tsv", ["measure", "--tsv", "main.adb", "input", "1000"], files, None),
         ("measure up to a time", ["measure", "main.adb", "input", "1000", "--until", "9000"], files, None),
+        ("measure of a set", ["measure", "main.adb", "choices", "20000", "1000"], {"main.adb": tank, "choices": choices}, None),
         ("search that finds none", ["search", "main.adb", "choices", "20000", "1000"], {"main.adb": tank, "choices": choices}, "the answer"),
         ("search that finds a line", ["search", "main.adb", "choices", "20000", "1000", "line", "alarm"], {"main.adb": tank, "choices": choices}, None),
         ("search of a part", ["search", "main.adb", "choices", "20000", "1000", "line", "alarm", "--part", "2/2"], {"main.adb": tank, "choices": choices}, None),

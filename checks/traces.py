@@ -1,6 +1,7 @@
 #!/usr/bin/env python3
 """Compares the traces of the sources in the tables and of the examples, byte for byte, with those that bench/reference.py makes of their images. An image has no
-places of the source: those of rows are left out there, compared with the statements that begin there, and by raises.txt and the examples' whole traces.
+places of the source: those of rows are left out there, compared with the statements and declarations that begin there, and by raises.txt and the examples' whole
+traces.
 
     traces.py PROGRAM FOLDER EXAMPLES SCRATCH
 
@@ -40,16 +41,31 @@ def examples_of(folder):
         yield name, read(source), read(schedule) if os.path.exists(schedule) else b"", read(trace).decode()
 
 
-# What the statement begins with at the place of a row, by what the row reports.
+# What the statement or declaration begins with at the place of a row, by what the row reports.
 PLACES = {
     r"writes \d+ \w+ (.*) -?\d+": lambda found: rf'put\s*\(\s*"{re.escape(found[1])}"',
     r"(?:waits until|is late by) -?\d+": lambda found: r"delay\b",
     r"(?:reads -?\d+ from \d+|(?:enters|leaves|queues|is refused).*)": lambda found: r"[a-z]",
 }
 
+# What the declaration of an object has in its first value, where one is at the place of such a row.
+DECLARATION = re.compile(r"[a-z]\w*\s*:(?!=)", re.I)
+FIRST_VALUES = {
+    r"reads -?\d+ from \d+": r"[^;]*:=[^;]*\bread\b",
+    r"(?:enters|is refused).*": r"[^;]*:=[^;]*\w\s*\.\s*[a-z]",
+}
+
+# What statements and declarations do; a task also leaves an object at the end of a body, where none stands.
+DONE = re.compile(r"\d+ \d+ \w+ (?:writes|reads|raises|is refused|enters|queues|is late|waits until)\b.*")
+
+
+def unplaced(trace):
+    """The rows of a trace that report what a statement or a declaration does, and have no place."""
+    return [row for row in trace.splitlines() if DONE.fullmatch(row) and not PLACED.match(row)]
+
 
 def misplaced(source, trace):
-    """The rows of a trace at whose place in the source no statement begins that does what they report."""
+    """The rows of a trace at whose place in the source no statement or declaration begins that does what they report."""
     lines = source.decode("latin-1").split("\n")
     for row in trace.splitlines():
         placed = re.fullmatch(r"\d+ \d+ \w+ (.*) at (\d+):(\d+)", row)
@@ -58,6 +74,9 @@ def misplaced(source, trace):
             for form, wanted in PLACES.items():
                 found = re.fullmatch(form, placed[1])
                 if found and not re.match(wanted(found), text, re.I):
+                    yield row
+            for form, value in FIRST_VALUES.items():
+                if DECLARATION.match(text) and re.fullmatch(form, placed[1]) and not re.match(value, text, re.I):
                     yield row
 
 
@@ -119,15 +138,16 @@ class Comparer:
             self.wrong.append(f"{name}: simulated up to {until}: status {run.returncode}, {run.stdout.decode()!r}")
 
     def compare(self, name, steps, expected, placed, *words):
-        """Traces the source that was written: its trace is what is expected, with the places of rows or without them, at each place a statement begins that does what
-        the row reports, and the status is that of the last line."""
+        """Traces the source that was written: its trace is what is expected, with the places of rows or without them, each row of what a statement or a declaration
+        does has a place, at each place one begins that does what the row reports, and the status is that of the last line."""
         run = self.call("trace", "main.adb", "input", str(steps), *words)
         told = run.stdout.decode() if placed else PLACED.sub(r"\1", run.stdout.decode())
         self.rows += told.count("\n")
         if (told, run.stderr, run.returncode) != (expected, b"", STATUSES[expected.splitlines()[-1].split()[0]]):
             first = next((pair for pair in zip(told.splitlines(), expected.splitlines()) if pair[0] != pair[1]), None)
             self.wrong.append(f"{name}: status {run.returncode}, {run.stderr!r}; they differ first in {first}")
-        self.wrong += [f"{name}: no such statement is there: {row}" for row in misplaced(read(os.path.join(self.folder, "main.adb")), run.stdout.decode())]
+        self.wrong += [f"{name}: nothing that does this is there: {row}" for row in misplaced(read(os.path.join(self.folder, "main.adb")), run.stdout.decode())]
+        self.wrong += [f"{name}: the row has no place: {row}" for row in unplaced(run.stdout.decode())]
 
 
 def main():

@@ -13,6 +13,7 @@ mod Searching
 mod FirstFound
 mod Driving
 mod SearchCommand
+mod MeasureCommand
 mod Formatting
 mod Refuted
 mod Explaining

@@ -1,9 +1,11 @@
 -- What the program's work over files leaves, by what is asked for and by its exit status.
-use Rattle.std.specs.Prelude.{◌≡◌, ◌≢◌, ◌<◌, ◌⊎◌, ◌++◌, ℕ, ℤ, Bool, true, false, List, [], Option, Some, None, ⊤}
+use Rattle.std.specs.Prelude.{◌≡◌, ◌≢◌, ◌<◌, ◌⊎◌, ◌++◌, ℕ, ℤ, Bool, true, false, List, [], Option, Some, None, if◌then◌else◌, nat_eq, ⊤}
 use Rattle.std.specs.Io.KnownBytes.{Appends}
 use Rattle.base.specs.declared.faults.TheConstants.{MEMORY_REFUSED}
 use Rattle.base.specs.declared.schedule.ScheduleLine.{ScheduleLine}
 use Rattle.choices.specs.Faults.{RefusesChoicesText}
+use Rattle.choices.specs.Sets.{IsChoicesText}
+use Rattle.choices.specs.Slots.{Slot}
 use Rattle.choices.specs.declared.faults.ChoicesFault.{ChoicesFault}
 use Rattle.choices.specs.declared.part.Part.{Part}
 use Rattle.clock.specs.Schedules as schedules
@@ -36,12 +38,16 @@ use Rattle.pictures.specs.Pictures.{picture_text}
 use Rattle.tracing.specs.Known.{Known}
 use Rattle.tracing.specs.Traces.{trace_text}
 use Rattle.measuring.specs.Text.{measures_text}
+use Rattle.measuring.specs.declared.text.Form.{Form}
 use Rattle.measuring.specs.declared.text.Form.TheVariants as tables
+use Rattle.set_measures.specs.Sets.{IsMeasuredSet}
+use Rattle.set_measures.specs.Text.{set_text}
+use Rattle.set_measures.specs.declared.set.SetMeasures.{SetMeasures}
 use Rattle.variable_places.specs.Shown.{program_scopes}
 use Rattle.waveforms.specs.Scopes.{Scopes}
 use Rattle.waveforms.specs.TimeWaves.{time_waves_text}
 use Rattle.waveforms.specs.Waves.{waves_text}
-use Rattle.command_line.specs.Words.{CheckText, Command, CompileText, ExplainFault, ExplainText, FormatText, GoText, ListImage, Nothing, RunImage, ShowManual, ShowVersion, SearchText, SimulateText, TraceText, asked, is_told}
+use Rattle.command_line.specs.Words.{CheckText, Command, CompileText, ExplainFault, ExplainText, FormatText, GoText, ListImage, MeasureSet, Nothing, RunImage, ShowManual, ShowVersion, SearchText, SimulateText, TraceText, asked, is_told}
 use Rattle.command_line.specs.Words as words_of
 use Rattle.adarun.specs.Accepted.{Compiles, RefusesText}
 use Rattle.adarun.specs.CodeTold.{IsCodeTold}
@@ -553,6 +559,74 @@ LeavesSearch contents source given until limit sought part Failed old new =
 LeavesSearch contents source given until limit sought part ImageFault old new = ⊥
 LeavesSearch contents source given until limit sought part status old new = HasSearched contents source given until limit sought part status old new
 
+-- ---- `measure` of a set
+
+-- the form in which measures are written
+abbrev pub form_of : (is_fields : Bool) → Form
+form_of true = tables.Fields
+form_of false = tables.Table
+
+-- the exit status, by how many runs the limit on steps has cut (docs/FORMATS.md, "Measures of a set")
+abbrev pub measured_status : (cut : ℕ) → Status
+measured_status cut = if nat_eq cut 0 then Done else StepLimit
+
+-- what is measured of the runs of a named image on the schedules of a set was written; the limit on steps has cut so many of them
+pub record AreMeasuresWritten (is_fields : Bool) (named : Named) (slots : List Slot) (until : ℤ) (limit cut : ℕ) (old new : Option (List ℕ)) : Type 0 where
+  pub measures : SetMeasures
+  pub measured : IsMeasuredSet named.image slots until limit measures
+  pub cut_is : cut ≡ measures.cut
+  pub written : Appends old new (set_text (form_of is_fields) named.image (names_alone named.objects.items) slots measures)
+
+-- a beginning of that was written
+pub record AreMeasuresBegun (is_fields : Bool) (named : Named) (slots : List Slot) (until : ℤ) (limit : ℕ) (old new : Option (List ℕ)) : Type 0 where
+  pub measures : SetMeasures
+  pub measured : IsMeasuredSet named.image slots until limit measures
+  pub begins : AppendsBeginning old new (set_text (form_of is_fields) named.image (names_alone named.objects.items) slots measures)
+
+-- The source was read and compiled, the second file is a set of schedules, and these are the measures of the image's runs on its schedules, each up to the time
+-- and with the limit on its steps.
+pub record MeasuresSet (contents : Contents) (source choices : List ℕ) (until : ℤ) (limit : ℕ) : Type 0 where
+  pub text : List ℕ
+  pub source_read : IsContentRead (contents source) text
+  pub image : Sections
+  pub compiles : Compiles text image
+  pub input : List ℕ
+  pub input_read : IsContentRead (contents choices) input
+  pub slots : List Slot
+  pub are_slots : IsChoicesText until input slots
+  pub measures : SetMeasures
+  pub measured : IsMeasuredSet image slots until limit measures
+
+-- what is written of them; objects have their names in the source
+abbrev pub measures_written : (is_fields : Bool) → (contents : Contents) (source choices : List ℕ) (until : ℤ) (limit : ℕ)
+    → MeasuresSet contents source choices until limit → List ℕ
+measures_written is_fields contents source choices until limit m = set_text (form_of is_fields) m.image (object_names m.compiles.tree) m.slots m.measures
+
+-- they were written, with this status
+pub record HasMeasured (is_fields : Bool) (contents : Contents) (source choices : List ℕ) (until : ℤ) (limit : ℕ) (status : Status)
+    (old new : Option (List ℕ)) : Type 0 where
+  pub measures : MeasuresSet contents source choices until limit
+  pub status_is : status ≡ measured_status measures.measures.cut
+  pub written : Appends old new (measures_written is_fields contents source choices until limit measures)
+
+-- a beginning of them was written
+pub record HasBegunMeasures (is_fields : Bool) (contents : Contents) (source choices : List ℕ) (until : ℤ) (limit : ℕ)
+    (old new : Option (List ℕ)) : Type 0 where
+  pub measures : MeasuresSet contents source choices until limit
+  pub begins : AppendsBeginning old new (measures_written is_fields contents source choices until limit measures)
+
+-- what `measure` of a set wrote to standard output, by the exit status
+abbrev pub LeavesMeasures : (is_fields : Bool) → Contents → (source choices : List ℕ) → (until : ℤ) → (limit : ℕ) → Status → Option (List ℕ)
+    → Option (List ℕ) → Type 0
+LeavesMeasures is_fields contents source choices until limit SourceRefused old new = HasRefusedSource contents source old new
+LeavesMeasures is_fields contents source choices until limit ScheduleRefused old new = HasRefusedChoices contents source (contents choices) until old new
+LeavesMeasures is_fields contents source choices until limit NoMemory old new = new ≡ old
+LeavesMeasures is_fields contents source choices until limit Failed old new =
+    (new ≡ old) ⊎ HasBegunMeasures is_fields contents source choices until limit old new
+LeavesMeasures is_fields contents source choices until limit Done old new = HasMeasured is_fields contents source choices until limit Done old new
+LeavesMeasures is_fields contents source choices until limit StepLimit old new = HasMeasured is_fields contents source choices until limit StepLimit old new
+LeavesMeasures is_fields contents source choices until limit status old new = ⊥
+
 -- ---- all
 
 -- what was written to standard output and to files
@@ -573,6 +647,8 @@ LeavesWritten (FormatText source) standard_input before after status old new = A
     × LeavesFormat (with_input standard_input before) source status old new
 LeavesWritten (SimulateText source schedule limit until) standard_input before after status old new = AreFilesKept before after
     × LeavesSimulate (with_input standard_input before) source (input_of before schedule) until limit status old new
+LeavesWritten (MeasureSet source choices until limit is_fields) standard_input before after status old new = AreFilesKept before after
+    × LeavesMeasures is_fields before source choices until limit status old new
 LeavesWritten (SearchText source choices until limit sought part is_quiet) standard_input before after status old new = AreFilesKept before after
     × LeavesSearch (with_input standard_input before) source (before choices) until limit sought part status old new
 LeavesWritten ShowManual standard_input before after status old new = AreFilesKept before after × LeavesShown MANUAL.now status old new

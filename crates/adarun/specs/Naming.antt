@@ -1,5 +1,5 @@
 -- What is told of a program beside its image: the names of its protected objects and their entries, in the order of their declarations, which is that of the
--- objects' numbers in the image, and the places of its statements.
+-- objects' numbers in the image, and the places of its statements and declarations.
 use Rattle.std.specs.Prelude.{◌≡◌, ℕ, List, [], ◌∷◌, map, Option, Some, None, Result, Ok, Err}
 use Rattle.image.specs.Sections.{Sections}
 use Rattle.lexer.specs.declared.fault.Fault.{Fault}
@@ -33,7 +33,8 @@ names_alone objects = map (λ names. names.object) objects
 abbrev pub object_names : ProgramTree → List (List ℕ)
 object_names t = names_alone (objects_of t)
 
--- the text's image, and of the tree of which it was made the names of the objects and entries, and the places of the statements, by the image's instructions
+-- The text's image, and of the tree of which it was made the names of the objects and entries, and the places of the statements and declarations, by the
+-- instructions of the image.
 pub record CompilesNamed (text : List ℕ) (image : Sections) (objects : List ObjectNames) (places : List PlaceRow) : Type 0 where
   pub compiles : Compiles text image
   pub names : objects ≡ objects_of compiles.tree

@@ -12,7 +12,7 @@ use Rattle.adarun.specs.Operations.{operation_in}
 abbrev pub position_in : List ℕ → ℕ → Origin
 position_in text place = record { line = line_from 1 (take place text); column = column_from 1 (take place text) }
 
--- of the innermost statement of whose code the instruction at this address is, by the places of the text's statements
+-- of the innermost statement or declaration of whose code the instruction at this address is, by the places of the text's statements and declarations
 abbrev pub origin_in : List ℕ → List PlaceRow → ℕ → Option Origin
 origin_in text places address = option_map (position_in text) (place_at places address)
 

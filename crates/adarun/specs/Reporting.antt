@@ -73,7 +73,7 @@ abbrev pub IsScheduleRefusal : (file text : List ℕ) → ScheduleFault → Opti
 IsScheduleRefusal file text fault None = explanation_of fault.number ≡ None
 IsScheduleRefusal file text fault (Some report) = HasScheduleRefusal file text fault report
 
--- the place of the innermost statement of whose code the instruction is, by the places of the text's statements
+-- the place of the innermost statement or declaration of whose code the instruction is, by the places of the text's statements and declarations
 abbrev pub raise_place : List PlaceRow → (address : Option ℕ) → Option ℕ
 raise_place places (Some address) = place_at places address
 raise_place places None = None

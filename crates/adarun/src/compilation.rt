@@ -30,7 +30,7 @@ use variable_places::scopes_of;
 use waveforms::Scopes;
 
 /// The image of a program, the names of its protected objects and their entries and those of its subprograms, in the order of their numbers, the scopes of its
-/// dumps, and the places of its statements.
+/// dumps, and the places of its statements and declarations.
 #[derive(Drop)]
 pub(crate) struct Named {
     pub(crate) image: Image,
@@ -40,7 +40,7 @@ pub(crate) struct Named {
     pub(crate) places: Places,
 }
 
-// The image of an accepted program and the places of its statements, or the fault that it is refused with.
+// The image of an accepted program and the places of its statements and declarations, or the fault that it is refused with.
 fn compiled_of(alloc: Global, accepted: &Accepted) -> Result<Compiled, Fault>
     ensures means { IfOk result (λ made. SameMeaning (program_tree accepted.now) made.image) }
     ensures counted { IfOk result (λ made. KeepsCount (program_tree accepted.now) made.image (most_steps made.image)) }
@@ -64,7 +64,7 @@ fn compiled_of(alloc: Global, accepted: &Accepted) -> Result<Compiled, Fault>
 }
 
 // The image of an accepted program with the names of its protected objects, their entries and its subprograms, the scopes of its dumps, and the places of its
-// statements.
+// statements and declarations.
 fn named_of(alloc: Global, accepted: &Accepted) -> Result<Named, Fault>
     ensures means { IfOk result (λ named. SameMeaning (program_tree accepted.now) named.image) }
     ensures counted { IfOk result (λ named. KeepsCount (program_tree accepted.now) named.image (most_steps named.image)) }
@@ -99,7 +99,7 @@ fn named_of(alloc: Global, accepted: &Accepted) -> Result<Named, Fault>
 }
 
 /// Compiles a source text as `compile` does, and gives the names of its protected objects, their entries and its subprograms, the scopes of its dumps, and the
-/// places of its statements.
+/// places of its statements and declarations.
 ///
 /// # Errors
 /// As `compile`.

@@ -19,7 +19,7 @@ pub(crate) fn position(text: &[u8], place: u32) -> Origin
     }
 }
 
-/// The statements of a text and the names of its subprograms, by the instructions of its image.
+/// The statements and declarations of a text and the names of its subprograms, by the instructions of its image.
 #[derive(Drop)]
 pub(crate) struct Statements<'a> {
     pub(crate) text: &'a [u8],

@@ -10,6 +10,7 @@ use crate::compilation::compile;
 use crate::files::{FileStore, ReadError, WriteError, read_source};
 use crate::format_command::drive_format;
 use crate::going::{GoFault, go};
+use crate::measure_command::drive_measures;
 use crate::messages::{
     cannot_write, no_memory, refuse_image, refuse_schedule, refuse_source, report_ending,
     report_outcome, report_schedule, report_source, unread, usage,
@@ -51,12 +52,12 @@ pub enum Status {
 /// Does what the words, without the program's name, ask for: reads files, writes one of them or to `out`, and where it stops early one line to `err`, or of
 /// `simulate` several; `check` writes to `err` alone, which was given the report of every fault of the source under status 2, and nothing under status 0. It
 /// answers the exit status. Where a run came to an outcome, `out` was given its text (`go`, `simulate`, `run`), or the view of it that was asked for (`trace`,
-/// `measure`); of `search` its answer; where an image was listed, its listing; where a fault was explained, its explanation; where a source was formatted, its
-/// layout; where the manual or the version was asked for, this; and no write to `out` failed under any status but 1. Where a text, an image or a schedule was
-/// refused or memory was wanting, nothing was written; where a write to `out` failed, a beginning of what was to be written. `compile` writes the image's file,
-/// and nothing to `out`: that file stays as it was unless the bytes of the source's image were there to be written, and no other file changes. The steps of
-/// runs, searches and traces are counted, among them those of a second run, by which `simulate` says where an exception came from. `watch` has the seconds that
-/// somebody has waited.
+/// `measure`); of `measure` of a set what was measured of its runs; of `search` its answer; where an image was listed, its listing; where a fault was
+/// explained, its explanation; where a source was formatted, its layout; where the manual or the version was asked for, this; and no write to `out` failed
+/// under any status but 1. Where a text, an image or a schedule was refused or memory was wanting, nothing was written; where a write to `out` failed, a
+/// beginning of what was to be written. `compile` writes the image's file, and nothing to `out`: that file stays as it was unless the bytes of the source's
+/// image were there to be written, and no other file changes. The steps of runs, searches and traces are counted, among them those of a second run, by which
+/// `simulate` says where an exception came from. `watch` has the seconds that somebody has waited.
 pub fn drive<F: FileStore, W: Stopwatch, O: Sink, E: Sink, L: Ledger>(
     alloc: Global,
     words: &[&str],
@@ -117,6 +118,17 @@ pub fn drive<F: FileStore, W: Stopwatch, O: Sink, E: Sink, L: Ledger>(
             },
         ) => drive_simulate(
             alloc, files, source, schedule, until, limit, out, err, steps,
+        ),
+        Ok(
+            Request::MeasureSet {
+                source,
+                choices,
+                until,
+                limit,
+                is_fields,
+            },
+        ) => drive_measures(
+            alloc, files, is_fields, source, choices, until, limit, out, err, steps,
         ),
         Ok(
             Request::Search {

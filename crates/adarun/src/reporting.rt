@@ -171,8 +171,8 @@ pub(crate) fn schedule_refusal(
     Ok(Some(report))
 }
 
-// The place of the statement from which the last exception came that the task had in a run, if it had one, and that is known. Two machines stand on its frame,
-// which is no part of those below (docs/PROOF.md, "Only tested": 192 KiB of stack).
+// The place of the statement or declaration from which the last exception came that the task had in a run, if it had one, and that is known. Two machines stand
+// on its frame, which is no part of those below (docs/PROOF.md, "Only tested": 192 KiB of stack).
 #[inline(never)]
 fn raise_place<L: Ledger>(
     alloc: Global,

@@ -47,7 +47,8 @@ fn status_of(outcome: SearchOutcome) -> Status
     }
 }
 
-fn refuse_choices<E: Sink>(err: &mut E, fault: &ChoicesFault) -> Status
+/// Reports why a set of schedules was refused.
+pub(crate) fn refuse_choices<E: Sink>(err: &mut E, fault: &ChoicesFault) -> Status
     ensures { result ≡ (if nat_eq fault.now.number MEMORY_REFUSED then Status.NoMemory else Status.ScheduleRefused) }
 {
     refuse(

@@ -32,6 +32,8 @@ pub data Command : Type 0 where
   FormatText : (source : List ℕ) → Command
   -- the schedule is empty where none is named
   SimulateText : (source : List ℕ) (schedule : Option (List ℕ)) (limit : ℕ) (until : Option ℤ) → Command
+  -- a time in microseconds up to which the run on each schedule of a set is measured, and a limit on the steps of each; whether fields are written, or a table
+  MeasureSet : (source choices : List ℕ) (until : ℤ) (limit : ℕ) (is_fields : Bool) → Command
   -- a time in microseconds up to which a part of a set is searched, and a limit on the steps at one time; whether nothing is reported meanwhile
   SearchText : (source choices : List ℕ) (until : ℤ) (limit : ℕ) → Wanted → Part → (is_quiet : Bool) → Command
   ShowManual ShowVersion Nothing : Command
@@ -89,7 +91,7 @@ is_plain [] = true
 is_plain (c ∷ []) = true
 is_plain (c ∷ d ∷ rest) = not (nat_eq c 45)
 
--- ---- `trace` with an option, and `measure`
+-- ---- `trace` with an option
 
 -- `--time`, directly after `--vcd`, asks for a dump over virtual time; and the words after it
 abbrev pub dumped_in : List (List ℕ) → View × List (List ℕ)
@@ -119,19 +121,6 @@ view_asked view words = Nothing
 abbrev pub asked_among : List (List ℕ) → Option (View × List (List ℕ)) → Command
 asked_among words (Some found) = view_asked found.0 found.1
 asked_among words None = asked_plainly words
-
--- the words after `measure`
-abbrev pub behind_measure : List (List ℕ) → Option (List (List ℕ))
-behind_measure [] = None
-behind_measure (name ∷ rest) = if bytes_eq name (codes "measure") then Some rest else None
-
--- `--tsv`, directly after `measure`, asks for fields that are separated by tabs; and the words after it
-abbrev pub measured_in : List (List ℕ) → View × List (List ℕ)
-measured_in [] = (views.Measures, [])
-measured_in (mark ∷ rest) = if bytes_eq mark (codes "--tsv") then (views.MeasuredFields, rest) else (views.Measures, mark ∷ rest)
-
-abbrev pub measure_asked : List (List ℕ) → Command
-measure_asked words = view_asked (measured_in words).0 (measured_in words).1
 
 -- ---- `search`
 
@@ -230,6 +219,45 @@ quiet_in (mark ∷ rest) = if bytes_eq mark (codes "--quiet") then (true, rest) 
 abbrev pub search_asked : List (List ℕ) → Command
 search_asked words = search_among (quiet_in words).0 (unmarked (quiet_in words).1)
 
+-- ---- `measure`
+
+-- the words after `measure`
+abbrev pub behind_measure : List (List ℕ) → Option (List (List ℕ))
+behind_measure [] = None
+behind_measure (name ∷ rest) = if bytes_eq name (codes "measure") then Some rest else None
+
+-- `--tsv`, directly after `measure`, asks for fields that are separated by tabs; and the words after it
+abbrev pub fields_in : List (List ℕ) → Bool × List (List ℕ)
+fields_in [] = (false, [])
+fields_in (mark ∷ rest) = if bytes_eq mark (codes "--tsv") then (true, rest) else (false, mark ∷ rest)
+
+-- what is measured of one run, as fields or as a table
+abbrev pub measures_in : (is_fields : Bool) → View
+measures_in true = views.MeasuredFields
+measures_in false = views.Measures
+
+abbrev pub measures_up_to : (is_fields : Bool) → (source choices : List ℕ) → Option ℤ → Option ℕ → Command
+measures_up_to is_fields source choices (Some until) (Some limit) = MeasureSet source choices until limit is_fields
+measures_up_to is_fields source choices until limit = Nothing
+
+-- what is measured of the runs on the schedules of a set
+abbrev pub measures_of_set : (is_fields : Bool) → (source choices until limit : List ℕ) → Command
+measures_of_set is_fields source choices until limit = measures_up_to is_fields source choices (time_of until) (numeral_of limit)
+
+-- three words are those of one run, and four those of a set; a word `--` before them lets names begin with `-`
+abbrev pub measured : (is_fields : Bool) → List (List ℕ) → Command
+measured is_fields (source ∷ schedule ∷ limit ∷ []) = view_asked (measures_in is_fields) (source ∷ schedule ∷ limit ∷ [])
+measured is_fields (first ∷ second ∷ third ∷ limit ∷ []) =
+    if bytes_eq first (codes "--") then within (seen (measures_in is_fields) second third) (numeral_of limit)
+    else (if is_plain first && is_plain second then measures_of_set is_fields first second third limit else Nothing)
+measured is_fields (mark ∷ source ∷ choices ∷ until ∷ limit ∷ []) =
+    if bytes_eq mark (codes "--") then measures_of_set is_fields source choices until limit else Nothing
+measured is_fields words = Nothing
+
+-- what the words after `measure` ask for
+abbrev pub measure_asked : List (List ℕ) → Command
+measure_asked words = measured (fields_in words).0 (fields_in words).1
+
 -- ---- `--until`
 
 -- a word that lets the names after it begin with `-`
@@ -324,6 +352,7 @@ command_of (requests.ExplainText number source) = ExplainText number source.now
 command_of (requests.Check source) = CheckText source.now
 command_of (requests.Format source) = FormatText source.now
 command_of (requests.Simulate source schedule limit until) = SimulateText source.now (option_map (λ name. name.now) schedule) limit until
+command_of (requests.MeasureSet source choices until limit is_fields) = MeasureSet source.now choices.now until limit is_fields
 command_of (requests.Search source choices until limit wanted part is_quiet) = SearchText source.now choices.now until limit (wanted_of wanted) part is_quiet
 command_of requests.Manual = ShowManual
 command_of requests.Version = ShowVersion

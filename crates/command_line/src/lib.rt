@@ -84,6 +84,15 @@ pub enum Request<'a> {
         limit: u64,
         until: Option<i64>,
     },
+    /// Compile a source, and measure its run on each schedule of a set up to a time (microseconds since the start), with at most so many steps in each; what is
+    /// measured is written as fields, or as a table.
+    MeasureSet {
+        source: &'a str,
+        choices: &'a str,
+        until: i64,
+        limit: u64,
+        is_fields: bool,
+    },
     /// Compile a source and search the schedules of a part of a set up to a time (microseconds since the start), with at most so many steps at one time; a
     /// quiet search doesn't report how far it is.
     Search {

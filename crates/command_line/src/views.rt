@@ -1,4 +1,4 @@
-//! The words after `measure`, and after `trace` with an option, which are read without clap.
+//! The words after `trace` with an option, which are read without clap.
 ghost use Rattle.std.specs.Prelude.{◌≡◌, if◌then◌else◌, map, option_map};
 ghost use Rattle.command_line.specs.Words.{AnswersWords, Nothing, dumped_in, seen, view_asked, within};
 ghost use Rattle.command_line.specs.Words as words_of;
@@ -37,8 +37,11 @@ pub(crate) fn behind_option<'a>(words: &'a [&'a str]) -> Option<(View, &'a [&'a 
     }
 }
 
-// The request for this view of the run of this source under this schedule, where the limit is one.
-fn view_of<'a>(
+/// The request for this view of the run of this source under this schedule.
+///
+/// # Errors
+/// Usage where the limit is none.
+pub(crate) fn view_of<'a>(
     view: View,
     source: &'a str,
     schedule: &'a str,
@@ -55,8 +58,11 @@ fn view_of<'a>(
     })
 }
 
-// That request, where the words may be read as names.
-fn view_if<'a>(
+/// That request, where the words may be read as names.
+///
+/// # Errors
+/// Usage where they may not be, and where the limit is none.
+pub(crate) fn view_if<'a>(
     is_right: bool,
     view: View,
     source: &'a str,

@@ -1,4 +1,4 @@
--- That the first row of a table of places that covers an instruction is that of the innermost statement; the contract of a public function.
+-- That the first row of a table of places that covers an instruction is that of the innermost statement or declaration; the contract of a public function.
 use Rattle.std.specs.Prelude.{◌≡◌, ◌≤◌, ◌<◌, ℕ, List, None, Some, slice_get}
 use Rattle.stmt_code.specs.Placing.{AreInnermostFirst, place_at}
 use Rattle.stmt_code.specs.declared.tables.PlaceRow.{PlaceRow}

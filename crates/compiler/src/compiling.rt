@@ -22,14 +22,14 @@ use ravenscar::Accepted;
 use source_laws::laws::limits_are_told;
 use std::alloc::Global;
 
-/// The image of a program, and the places of its statements.
+/// The image of a program, and the places of its statements and declarations.
 #[derive(Drop)]
 pub struct Compiled {
     pub image: Image,
     pub places: Places,
 }
 
-/// The image of an accepted program, which means the same, with the same lines, times and outcome, and the places of its statements.
+/// The image of an accepted program, which means the same, with the same lines, times and outcome, and the places of its statements and declarations.
 ///
 /// # Errors
 /// `Memory` where memory was refused; `Limit` where the code of the program may pass a limit of images, which it names (docs/LANGUAGE.md, "Limits").

@@ -48,7 +48,7 @@ pub fn sections_mean_the_same()
     views_on();
 }
 
-/// The rows of places that come with the code of an accepted program are those of the statements of its bodies.
+/// The rows of places that come with the code of an accepted program are those of the declarations and statements of its bodies.
 pub fn places_are_told()
     ensures { PlacesAreTold }
 {
@@ -66,7 +66,7 @@ pub fn places_are_told()
     views_on();
 }
 
-/// The first row of places that covers an instruction is that of the innermost statement whose code it is.
+/// The first row of places that covers an instruction is that of the innermost statement or declaration whose code it is.
 pub fn places_are_innermost()
     ensures { PlacesAreInnermost }
 {}

@@ -5,7 +5,7 @@ ghost use Rattle.stmt_code.specs.Placing.{place_at};
 use std::marker::Model;
 use stmt_code::PlaceRow;
 
-/// The places of a program's statements, by the instructions of its image. Contracts see its rows, those of inner statements first.
+/// The places of a program's statements and declarations of objects, by the instructions of its image. Contracts see its rows, inner ones first.
 #[derive(Drop)]
 pub struct Places {
     rows: Vec<PlaceRow>,
@@ -33,15 +33,15 @@ fn place_at(rows: &[PlaceRow], address: usize) -> Option<u32>
 }
 
 impl Places {
-    /// The places of statements with these rows.
+    /// The places of statements and declarations with these rows.
     pub(crate) fn new(rows: Vec<PlaceRow>) -> Places
         ensures { result ≡ rows.items }
     {
         Places { rows }
     }
 
-    /// The place, in bytes of the source, of the innermost statement whose code has the instruction at this address, where a function's is that of its return;
-    /// none where it is code of no statement, as that of first values before a body's statements, of what a body gives back, and of main.
+    /// The place, in bytes of the source, of the innermost statement or declaration whose code has the instruction at this address, where a function's is that
+    /// of its return; none where it is code of neither, as that of first values of `out` parameters, of what a body gives back, and of main.
     pub fn place_of(&self, address: usize) -> Option<u32>
         ensures { result ≡ place_at self.now address }
     {

@@ -34,6 +34,9 @@ COMMANDS
         writes what is measured of the run: jobs and steps of each task, preemptions, blocking,
         waits in queues, lateness, frames and words, calls of each object and by whom;
         as tables, or with tabs between fields
+    adarun measure [--tsv] SRC CHOICES UNTIL LIMIT
+        writes the greatest or the least of each of these over all schedules of a set, each run
+        up to UNTIL, and which schedules give them
     adarun compile SRC IMG
         compiles a source to the file of an image
     adarun list IMG
@@ -61,8 +64,8 @@ WORDS
     LIMIT   the most steps of the run, in decimal digits alone, without underlines or an
             exponent: 0 to 18446744073709551615; simulate takes 1000000 where it is left out
     CHOICES the file of a set of schedules
-    UNTIL   the microsecond up to which is searched: 0 to 9223372036854775807; the LIMIT of a
-            search is the most steps at one time
+    UNTIL   the microsecond up to which is searched or measured: 0 to 9223372036854775807;
+            the LIMIT of a search is the most steps at one time
     TIME    the microsecond up to which the run goes: 0 to 9223372036854775807; --until and
             its word come last
     NUMBER  the number of a fault

@@ -4,4 +4,3 @@ mod Inside
 mod Tabled
 mod Measured
 mod Rows
-mod Whole

@@ -24,7 +24,7 @@ use tracing::{ACTORS, Ahead, Event, Events, since_clock, starts, until_clock};
 /// The measures of a run: those of tasks and handlers by their numbers, those of objects by theirs, those of each task and handler at each object, and those of
 /// instants.
 #[derive(Drop)]
-pub(crate) struct Measures {
+pub struct Measures {
     pub(crate) actors: Vec<ActorMeasures>,
     pub(crate) objects: Vec<ObjectMeasures>,
     pub(crate) usages: Vec<UsageMeasures>,

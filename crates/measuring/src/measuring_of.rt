@@ -13,6 +13,7 @@ ghost use Rattle.measuring.specs.Tables.{AreMeasured, AreWhole};
 ghost use Rattle.measuring.specs.Text.{measures_text};
 
 use crate::counting::Measures;
+use crate::sizes::{object_count, task_count};
 use crate::text::{Form, text_of};
 use clock::{Delays, HeapDelays, Schedule};
 use dispatch::{Ready, RingReady};
@@ -63,6 +64,41 @@ fn measure_on<R: Ready, D: Delays, L: Ledger>(
     after.outcome_or_limit()
 }
 
+/// What is measured of the run of an image on a schedule within a bound, and how the run ended, as `machine::run_within` reports it; nothing is written. Two
+/// machines take at most as many steps each as the bound has, which are counted.
+///
+/// # Errors
+/// `Memory` where memory was refused.
+#[inline(never)]
+pub fn measure_run<L: Ledger>(
+    alloc: Global,
+    image: &Image,
+    schedule: &Schedule,
+    bound: Bound,
+    steps: &mut Steps<L>,
+) -> Result<(Measures, Outcome), RunFault>
+    ensures whole { IfOk result (λ run. AreWhole run.0) }
+    ensures measured { IfOk result (λ run. AreMeasured run.0 (stories image.now schedule.now bound.steps) (calls image.now schedule.now bound.steps)
+        (usages image.now schedule.now bound.steps) (instants image.now schedule.now bound.steps)) }
+    ensures ends { IfOk result (λ run. EndsBy run.1 (code image.now schedule.now bound.steps)) }
+    ensures fault { IfErr result (λ fault. fault ≡ RunFault.Memory) }
+    ensures count { steps.new ≤ steps.old + 2 * bound.steps }
+{
+    let mut before: Machine<'_, RingReady, HeapDelays> = Machine::start(alloc, image, schedule)?;
+    let mut after: Machine<'_, RingReady, HeapDelays> = Machine::start(alloc, image, schedule)?;
+    let mut measures = Measures::new(alloc)?;
+    let mut times = no_calls(alloc)?;
+    let outcome = measure_on(
+        &mut measures,
+        &mut before,
+        &mut after,
+        &mut times,
+        bound.steps,
+        steps,
+    );
+    Ok((measures, outcome))
+}
+
 /// Runs an image as `machine::run_within` does, with the same outcome, and writes what is measured of the run in this form, and the last line of the run.
 /// Its protected objects have these names, in the order of their numbers; one for which there is none is named by its number. Two machines take at most as many
 /// steps each as the bound has, which are counted.
@@ -88,20 +124,10 @@ pub fn measure<S: Sink, L: Ledger>(
     ensures beginning { AppendsBeginning (S.bytes sink.old) (S.bytes sink.new) (measures_text form image.now names.now schedule.now bound) }
     ensures count { steps.new ≤ steps.old + 2 * bound.steps }
 {
-    let mut before: Machine<'_, RingReady, HeapDelays> = Machine::start(alloc, image, schedule)?;
-    let mut after: Machine<'_, RingReady, HeapDelays> = Machine::start(alloc, image, schedule)?;
-    let mut measures = Measures::new(alloc)?;
-    let mut times = no_calls(alloc)?;
-    let tasks = after.tasks();
-    let objects = after.objects();
-    let outcome = measure_on(
-        &mut measures,
-        &mut before,
-        &mut after,
-        &mut times,
-        bound.steps,
-        steps,
-    );
+    let run = measure_run(alloc, image, schedule, bound, steps)?;
+    let (measures, outcome) = run;
+    let tasks = task_count(image);
+    let objects = object_count(image);
     let mut text = text_of(alloc, form, image, names, tasks, objects, &measures)?;
     text.extend_from_slice(cut_line(image, &outcome, bound.cut).as_slice())?;
     match write_all(sink, text.as_slice()) {

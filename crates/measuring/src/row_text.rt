@@ -21,13 +21,13 @@ use itoa::Buffer;
 use machine::actor_name;
 
 /// The most bytes of a row, its end included.
-const ROW_BYTES: usize = 320;
+pub const ROW_BYTES: usize = 320;
 
 /// The text of one row.
-pub(crate) type RowText = ArrayVec<u8, ROW_BYTES>;
+pub type RowText = ArrayVec<u8, ROW_BYTES>;
 
-// Appends the bytes, for which there is room.
-fn put(row: &mut RowText, bytes: &[u8])
+/// Appends the bytes, for which there is room.
+pub fn put(row: &mut RowText, bytes: &[u8])
     requires { array_vec_len row.old + length bytes.now ≤ ROW_BYTES }
     ensures items { row.new.items ≡ row.old.items ++ bytes.now }
     ensures len { array_vec_len row.new ≡ array_vec_len row.old + length bytes.now }
@@ -68,8 +68,8 @@ fn put_cell(row: &mut RowText, form: Form, cell: &[u8])
     }
 }
 
-// Appends a number.
-fn put_number(row: &mut RowText, form: Form, number: u64)
+/// Appends a number, as a column or as a field.
+pub fn put_number(row: &mut RowText, form: Form, number: u64)
     requires { array_vec_len row.old + 21 ≤ ROW_BYTES }
     ensures items { row.new.items ≡ row.old.items ++ texts.number form number }
     ensures len { array_vec_len row.new ≤ array_vec_len row.old + 21 }
@@ -89,8 +89,8 @@ fn put_least(row: &mut RowText, form: Form, least: Option<u64>)
     }
 }
 
-// What a row is about, where it has fields, and its first number.
-fn begun(form: Form, word: &[u8], first: u64) -> RowText
+/// What a row is about, where it has fields, and its first number.
+pub fn begun(form: Form, word: &[u8], first: u64) -> RowText
     requires { length word.now ≤ 8 }
     ensures items { result.items ≡ kind form word.now ++ texts.number form first }
     ensures len { array_vec_len result ≤ 30 }
@@ -141,8 +141,8 @@ fn put_times(row: &mut RowText, form: Form, measures: &ActorMeasures)
     put_least(row, form, measures.least_apart);
 }
 
-// Appends the name with which a row ends.
-fn put_name(row: &mut RowText, name: &[u8])
+/// Appends the name with which a row ends.
+pub fn put_name(row: &mut RowText, name: &[u8])
     requires { array_vec_len row.old + length name.now + 1 ≤ ROW_BYTES }
     ensures items { row.new.items ≡ row.old.items ++ (name.now ++ codes "\n") }
 {
@@ -264,8 +264,8 @@ pub(crate) fn shown_frames(
     frames_row(form, frames, actor_name(image, actor).as_slice(), measures)
 }
 
-// The name of an object, or its number where it has none.
-fn object_name(names: &[Text], object: u8) -> ArrayVec<u8, NAME_LIMIT>
+/// The name of an object, or its number where it has none.
+pub fn object_name(names: &[Text], object: u8) -> ArrayVec<u8, NAME_LIMIT>
     ensures { result.items ≡ named_object object (slice_get names.now object) }
 {
     let mut text = ArrayVec::new();

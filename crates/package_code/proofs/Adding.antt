@@ -61,9 +61,9 @@ all_longer s (f ∷ fs) new =
 
 -- ---- what a body returns breaks no rule where its statements break none
 
-no_locals : (s : Scope) (ds : List DeclarationTree) → has_no_declarations ds ≡ true → locals_scope s ds ≡ s
-no_locals s [] h = refl
-no_locals s (d ∷ ds) h = cc
+none_declared : (ds : List DeclarationTree) → has_no_declarations ds ≡ true → ds ≡ []
+none_declared [] h = refl
+none_declared (d ∷ ds) h = cc
 
 value_unbroken : (s : Scope) (a : Around) (body : StmtTrees) (value : ExprTree) → returned body ≡ Some value → stmts_faults s a body ≡ []
     → faults_of s (result_wanted a.kind) value ≡ []
@@ -76,7 +76,8 @@ value_unbroken s a body value h k = cc
 
 -- ---- what its rules say of a body
 
--- What is known of a body where these names are visible in front of its parameters: these have names of their own, and what a function returns fits its result.
+-- What is known of a body where these names are visible in front of its parameters: these have names of their own, what a function returns fits its result, and
+-- a function declares nothing.
 pub record IsSoundBody (t : ProgramTree) (s : Scope) (d : SubprogramTree) (b : BodyTree) : Type 0 where
   pub front : SoundScope s
   pub sound : SoundScope (formals_scope s d.formals)
@@ -84,6 +85,7 @@ pub record IsSoundBody (t : ProgramTree) (s : Scope) (d : SubprogramTree) (b : B
   pub fit : (r : Identifier) (value : ExprTree) → d.result ≡ Some r → returned b.statements ≡ Some value
       → IsFit (formals_scope s d.formals) (subtype_named (program_of t).scope r) value
   pub result : (r : Identifier) → d.result ≡ Some r → is_some (subtype_of (program_of t).scope r) ≡ true
+  pub bare : (r : Identifier) → d.result ≡ Some r → b.declarations ≡ []
 
 -- where these names are visible in front of it, and these in front of its parameters
 module _ (whole before behind : Scope) (d : SubprogramTree) (b : BodyTree) (head : head_faults before d b ≡ [])
@@ -109,15 +111,19 @@ module _ (whole before behind : Scope) (d : SubprogramTree) (b : BodyTree) (head
   pub known_result : (r : Identifier) → d.result ≡ Some r → is_some (subtype_of whole r) ≡ true
   known_result r some = ap is_some (told r some).2
 
+  -- its body is one return
+  pub declares_nothing : (r : Identifier) → d.result ≡ Some r → b.declarations ≡ []
+  declares_nothing r some =
+      let single : is_function_body b ≡ true =
+      judged (is_some d.result) (is_function_body b) (unbroken _ d.name.place _ (back_empty _ (function_body_faults d b) head)) (ap is_some some) in
+      none_declared b.declarations (and_parts (has_no_declarations b.declarations) _ single).0
+
   module _ (r : Identifier) (value : ExprTree) (some : d.result ≡ Some r) (is : returned b.statements ≡ Some value) where
     abbrev result : Subtype
     result = subtype_named whole r
 
-    single : is_function_body b ≡ true
-    single = judged (is_some d.result) (is_function_body b) (unbroken _ d.name.place _ (back_empty _ (function_body_faults d b) head)) (ap is_some some)
-
     no_more : later ≡ inner
-    no_more = no_locals inner b.declarations (and_parts (has_no_declarations b.declarations) _ single).0
+    no_more = ap (locals_scope inner) (declares_nothing r some)
 
     named : result ≡ (told r some).0
     named = named_is whole r (told r some).0 (told r some).2
@@ -207,6 +213,7 @@ module _ (scopes : ScopesAreSound) (known : NamesAreKnown) (premises : PremisesH
     new_names = new_names;
     fit = fit program.scope before behind d b head body_legal told;
     result = known_result program.scope before behind d b head body_legal told;
+    bare = declares_nothing program.scope before behind d b head body_legal told;
   }
 
 -- ---- the body of a task, which has no parameters
@@ -249,4 +256,5 @@ module _ (scopes : ScopesAreSound) (known : NamesAreKnown) (premises : PremisesH
     new_names = omega arith;
     fit = λ r value some is. (let none : None ≡ Some r = some in cc);
     result = λ r some. (let none : None ≡ Some r = some in cc);
+    bare = λ r some. (let none : None ≡ Some r = some in cc);
   }

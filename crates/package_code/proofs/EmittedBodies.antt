@@ -27,7 +27,7 @@ use Rattle.expr_code.specs.declared.visible.Visible.{Visible}
 use Rattle.expr_code.proofs.Growing.{holds_before, holds_later}
 use Rattle.step_simulation.specs.part_code.specs.Copying.{GivesBack, left_out}
 use Rattle.stmt_code.specs.Emitting.{HasLabels, IsHandled, Serves, TellPlaces}
-use Rattle.stmt_code.specs.Placing.{sequence_within}
+use Rattle.stmt_code.specs.Placing.{body_within}
 use Rattle.step_simulation.specs.part_code.specs.Emitting.{first_word}
 use Rattle.step_simulation.specs.part_code.specs.Layout.{EndsBelow}
 use Rattle.step_simulation.specs.part_code.specs.Formals.{AddsEach, AreReturned, Placed, outs_end, passed_end, words_returned}
@@ -246,8 +246,8 @@ module _ (laws : LawsOfNames) (quiet : QuietStays) (shaped : InitialValuesHaveSh
         procedure_coded laws t legal restricted i well_formed g of_program numbers owner d b v before number s there refl last xs passed frames
         (parameters_are ∙ adds.passed ∙ sym ending) barrier kind_is does
 
-    -- the rows of places of its statements tell of them
-    pub procedure_tells : TellPlaces i program g numbers adds.runs.rows.placed (sequence_within b.statements b.handlers)
+    -- the rows of places of its declarations and statements tell of them
+    pub procedure_tells : TellPlaces i program g numbers adds.runs.rows.placed (body_within b.declarations b.statements b.handlers)
     procedure_tells =
         adds.runs.tells i (holds_later i (here old.code) (here adds.initial) adds.run.code grows_initial.longer at_run)
         (subst (HasLabels i) adds.labels labels) program g numbers last names_same serves room_enough unhandled handled

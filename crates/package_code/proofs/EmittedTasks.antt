@@ -27,7 +27,7 @@ use Rattle.expr_code.specs.Views.{At}
 use Rattle.expr_code.specs.declared.visible.Visible.{Visible}
 use Rattle.expr_code.proofs.Growing.{holds_before, holds_later}
 use Rattle.stmt_code.specs.Emitting.{HasLabels, IsHandled, Serves, TellPlaces}
-use Rattle.stmt_code.specs.Placing.{sequence_within}
+use Rattle.stmt_code.specs.Placing.{body_within}
 use Rattle.step_simulation.specs.part_code.specs.Formals.{AreInitial, AreReturned, StandInTurn, slot_for, no_subprogram, words_returned}
 use Rattle.step_simulation.specs.part_code.specs.Handling.{unhandled}
 use Rattle.step_simulation.specs.part_code.specs.Jumping.{Here, Jumps}
@@ -214,8 +214,8 @@ module _ (laws : LawsOfNames) (t : ProgramTree) (legal : IsLegal t) (restricted 
         (subst (HasLabels i) adds.labels labels) program g numbers v (same_names seen old b sizes new adds) serves
         (let l = adds.locals in omega (arith, l, locals_are)) unhandled handled refl)
 
-    -- the rows of places of its statements tell of them
-    pub task_tells : TellPlaces i program g numbers adds.runs.rows.placed (sequence_within b.statements b.handlers)
+    -- the rows of places of its declarations and statements tell of them
+    pub task_tells : TellPlaces i program g numbers adds.runs.rows.placed (body_within b.declarations b.statements b.handlers)
     task_tells =
         adds.runs.tells i (holds_later i (here old.code) (here adds.initial) adds.run.code grows_initial.longer at_run)
         (subst (HasLabels i) adds.labels labels) program g numbers v (same_names seen old b sizes new adds) serves

@@ -40,7 +40,7 @@ use Rattle.program_soundness.proofs.Trees.{tree_package}
 use Rattle.program_soundness.proofs.Whole.{IsPackage, legal_subtype}
 use Rattle.program_soundness.proofs.WiderScopes.{equal_bytes, stands, with_all}
 use Rattle.package_code.specs.Bodies.{Coded, coded_at, components_or_none, object_bodies, object_number, of_operation, operations_of, or_zero, own_name}
-use Rattle.package_code.proofs.Adding.{IsSoundBody, all_longer, body_added, fit, known_result, task_added}
+use Rattle.package_code.proofs.Adding.{IsSoundBody, all_longer, body_added, declares_nothing, fit, known_result, task_added}
 use Rattle.package_code.proofs.Coded.{coded_by}
 
 -- ---- where the body of an operation stands
@@ -211,6 +211,7 @@ module _ (scopes : ScopesAreSound) (known : NamesAreKnown) (premises : PremisesH
         new_names = ap length text ∙ all_longer behind parameters new ∙ ap (λ n. length behind + n) (length-map e.formals (parameter program.scope));
         fit = fit program.scope seen behind e b head operation_legal told;
         result = known_result program.scope seen behind e b head operation_legal told;
+        bare = declares_nothing program.scope seen behind e b head operation_legal told;
       }
 
       pub operation_added : IsSoundBody t (subprogram_scope (operation_sees (protected_items_scope begun (take j items)) obj.components e) e) e b
@@ -258,6 +259,7 @@ module _ (scopes : ScopesAreSound) (known : NamesAreKnown) (premises : PremisesH
         new_names = ap length text_within ∙ all_longer within passed new_within ∙ ap (λ n. length within + n) (length-map e.formals (parameter program.scope));
         fit = λ r value some is. (let none : None ≡ Some r = some in cc);
         result = λ r some. (let none : None ≡ Some r = some in cc);
+        bare = λ r some. (let none : None ≡ Some r = some in cc);
       }
 
       pub entry_body_added : IsSoundBody t (components_scope (protected_items_scope begun (take j items)) false obj.components)

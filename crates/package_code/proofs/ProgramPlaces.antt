@@ -1,4 +1,4 @@
--- The rows of places of a whole program tell of the statements of its bodies.
+-- The rows of places of a whole program tell of the declarations and statements of its bodies.
 use Rattle.std.proofs.Common.{◌≡◌, ℕ, zero, suc, ◌+◌, List, [], ◌∷◌, ◌++◌, All, ◌⊎◌, inl, inr, Option, None, Some, refl, sym, ap, ◌∙◌, subst, arith, append_assoc}
 use Rattle.std.proofs.lemmas.List.Elements.{All-get_or, All-weaker}
 use Rattle.std.proofs.lemmas.Option.{get_or_from_slice_get, slice_get_within}
@@ -7,7 +7,7 @@ use Rattle.image_laws.specs.kernel.specs.Laws.{QuietStays, ViewsBack, ViewsOn}
 use Rattle.image_laws.specs.Laws.{ImagesHaveSize}
 use Rattle.ada_tree.specs.declared.expression.Identifier.{Identifier}
 use Rattle.ada_tree.specs.ExpressionTree.{ExprTree}
-use Rattle.ada_tree.specs.StatementTree.{HandlerTrees, MoreStmts, NoStmts, Return, StmtTree, StmtTrees}
+use Rattle.ada_tree.specs.StatementTree.{DeclarationTree, HandlerTrees, MoreStmts, NoStmts, Return, StmtTree, StmtTrees}
 use Rattle.ada_tree.specs.ProgramTree.{BodyItemTree, BodyTree, EntryBody, OfItem, OperationBody, ProgramTree, ProtectedBody, ProtectedItemTree, SubprogramBody, TaskBody}
 use Rattle.image.specs.Operations.{called, results_of}
 use Rattle.image.specs.Rules.{IsWellFormed}
@@ -24,12 +24,12 @@ use Rattle.expr_code.specs.Seeing.{Package}
 use Rattle.step_simulation.specs.part_code.specs.Resting.{Framed}
 use Rattle.step_simulation.specs.part_code.specs.Statements.{Numbers, procedure_kind}
 use Rattle.stmt_code.specs.Emitting.{TellPlaces}
-use Rattle.stmt_code.specs.Placing.{AreInnermostFirst, StandsBetween, sequence_within, stmt_place}
+use Rattle.stmt_code.specs.Placing.{AreInnermostFirst, OfStatement, StandsBetween, body_within, stmt_place}
 use Rattle.stmt_code.specs.declared.tables.PlaceRow.{PlaceRow}
 use Rattle.stmt_code.proofs.PlacesAdded.{told_row}
 use Rattle.package_code.specs.Bodies.{Coded, bodies_of, coded_at, of_subprogram, of_task, operation_kind}
 use Rattle.package_code.specs.Package.{IsInFront, IsPackageOf}
-use Rattle.package_code.specs.Places.{HasBodyRows, LiesInSubprogram, PlacesAreTold, TellsBody, TellsOfBody, TellsReturn, statements_of}
+use Rattle.package_code.specs.Places.{HasBodyRows, LiesInSubprogram, PlacesAreTold, TellsBody, TellsOfBody, TellsReturn, constructs_of}
 use Rattle.package_code.specs.Program.{HasProgram}
 use Rattle.package_code.specs.Walking.{AddsValueFunction, HasBody, IsOfBody, first_statement_place, row_of}
 use Rattle.package_code.proofs.BodyFronts.{IsEntrance}
@@ -42,6 +42,7 @@ use Rattle.package_code.proofs.InFront.{LawsOfNames}
 use Rattle.package_code.proofs.Linking.{as_function, as_procedure, begins_there, body_there, called_front, handled_there, holds_there, in_front, labels_there, numbers_of, of_program, operation_code, operation_enters, package_enters, package_of, sections_linked}
 use Rattle.package_code.proofs.NamedExceptions.{exceptions_are_named}
 use Rattle.package_code.proofs.OperationBodies.{code_of, coded, object}
+use Rattle.package_code.proofs.OperationsAdded.{bodies_sound}
 
 -- ---- lists
 
@@ -67,10 +68,11 @@ either_result (Some r) = inr (r, refl)
 -- ---- the return of a function
 
 -- the statement that returns the value, and its place
-abbrev IsReturned : StmtTrees → HandlerTrees → Type 0
-IsReturned all hs = (x : StmtTree) × (slice_get (sequence_within all hs) 0 ≡ Some x) × (first_statement_place all ≡ stmt_place x)
+abbrev IsReturned : List DeclarationTree → StmtTrees → HandlerTrees → Type 0
+IsReturned ds all hs =
+    (x : StmtTree) × (slice_get (body_within ds all hs) 0 ≡ Some (OfStatement x)) × (first_statement_place all ≡ stmt_place x)
 
-returned_there : (all : StmtTrees) (hs : HandlerTrees) (value : ExprTree) → returned all ≡ Some value → IsReturned all hs
+returned_there : (all : StmtTrees) (hs : HandlerTrees) (value : ExprTree) → returned all ≡ Some value → IsReturned [] all hs
 returned_there (MoreStmts (Return place e) NoStmts) hs value h = (Return place e, refl, refl)
 returned_there all hs value h = absurd cc
 
@@ -90,10 +92,10 @@ module _ (t : ProgramTree) (i : Sections) (h : HasProgram t i) (laws : LawsOfNam
   abbrev package_is : IsPackageOf t i g
   package_is = of_program t i h laws quiet views back shaped legal restricted well_formed
 
-  -- the rows that were added with the code of such a body tell of its statements
+  -- the rows that were added with the code of such a body tell of its declarations and statements
   abbrev TellsOf : Coded → Type 0
   TellsOf c = (number : ℕ) (body : HasBody t h.directory number c h.walk) → c.head.result ≡ None
-      → TellPlaces i program g numbers body.keeps.rows.placed (statements_of c)
+      → TellPlaces i program g numbers body.keeps.rows.placed (constructs_of c)
 
   procedure_places : (c : Coded) (barrier : Option ExprTree) → (c.head.result ≡ None → c.kind ≡ procedure_kind c.owner barrier)
       → ((v : Framed) → IsInFront c.front g c.owner v → IsEntrance t g c.owner v c.head c.body) → TellsOf c
@@ -101,7 +103,7 @@ module _ (t : ProgramTree) (i : Sections) (h : HasProgram t i) (laws : LawsOfNam
       let adds = as_procedure t c.head c.body body.seen body.old body.words body.new body.adds none in
       let row : Subprogram = row_of c.kind body.words (here body.new.code) in
       let there : called i number ≡ Some row = called_front t i h number row body.there in
-      subst (λ l. TellPlaces i program g numbers l (statements_of c))
+      subst (λ l. TellPlaces i program g numbers l (constructs_of c))
       (behind_same body.old.rows.places adds.runs.rows.placed body.keeps.rows.placed
       (sym adds.runs.rows.located ∙ sym (ap (λ r. r.places) adds.rows) ∙ body.keeps.rows.located))
       (procedure_tells laws quiet shaped t legal restricted i well_formed g package_is numbers c.owner c.head c.body body.seen body.old body.new body.words
@@ -115,7 +117,7 @@ module _ (t : ProgramTree) (i : Sections) (h : HasProgram t i) (laws : LawsOfNam
       let c : Coded = of_task (front t (suc place)) name b in
       let row : Subprogram = row_of c.kind body.words (here body.new.code) in
       let there : called i number ≡ Some row = called_front t i h number row body.there in
-      subst (λ l. TellPlaces i program g numbers l (statements_of c))
+      subst (λ l. TellPlaces i program g numbers l (constructs_of c))
       (behind_same body.old.rows.places body.adds.runs.rows.placed body.keeps.rows.placed
       (sym body.adds.runs.rows.located ∙ sym (ap (λ r. r.places) body.adds.rows) ∙ body.keeps.rows.located))
       (task_tells laws t legal restricted i well_formed g package_is numbers place b body.seen body.old body.new body.words body.adds number row there
@@ -173,12 +175,22 @@ module _ (t : ProgramTree) (i : Sections) (h : HasProgram t i) (laws : LawsOfNam
             behind_same body.old.rows.places body.keeps.rows.placed (own ∷ [])
             (sym body.keeps.rows.located ∙ ap (λ z. z.rows.places) y.marked ∙ ap (λ l. l.places ++ own ∷ []) y.adds.rows)
 
-        is_returned : IsReturned c.body.statements c.body.handlers
-        is_returned = returned_there c.body.statements c.body.handlers y.value y.returns
+        -- a function declares nothing
+        bare : slice_get (bodies_of t) number ≡ Some c → c.body.declarations ≡ []
+        bare is =
+            let f = body_of t number c is in
+            (bodies_sound laws.scopes laws.names laws.premises t legal restricted f.place f.item f.k c f.at f.is).bare r some
 
-        own_tells : TellsReturn i number own is_returned.0
-        own_tells = record {
-          place = is_returned.2;
+        is_returned : slice_get (bodies_of t) number ≡ Some c → IsReturned c.body.declarations c.body.statements c.body.handlers
+        is_returned is =
+            subst (λ ds. IsReturned ds c.body.statements c.body.handlers) (sym (bare is))
+            (returned_there c.body.statements c.body.handlers y.value y.returns)
+
+        own_tells : (is : slice_get (bodies_of t) number ≡ Some c) → TellsReturn i number own (OfStatement (is_returned is).0)
+        own_tells is = record {
+          statement = (is_returned is).0;
+          is = refl;
+          place = (is_returned is).2;
           s = row_of c.kind body.words (here body.new.code);
           there = called_front t i h number (row_of c.kind body.words (here body.new.code)) body.there;
           first = sym (begins_there t i h number c body);
@@ -208,14 +220,14 @@ module _ (t : ProgramTree) (i : Sections) (h : HasProgram t i) (laws : LawsOfNam
         → TellsOfBody t i g numbers q
     of_body q x (inl none) =
         let told = body_places x.number x.coded x.there x.number x.body none in
-        let r = told_row i program g numbers x.body.keeps.rows.placed (statements_of x.coded) told x.index q x.among in
+        let r = told_row i program g numbers x.body.keeps.rows.placed (constructs_of x.coded) told x.index q x.among in
         record {
           number = x.number;
           body = x.coded;
           there = x.there;
           lies = lies_at x.number x.coded x.body x.index q x.among;
           index = x.index;
-          statement = r.0;
+          construct = r.0;
           among = r.1;
           tells = inl r.2;
         }
@@ -223,16 +235,16 @@ module _ (t : ProgramTree) (i : Sections) (h : HasProgram t i) (laws : LawsOfNam
         let own_row = own x.number x.coded x.body r.0 r.1 in
         let same : own_row ≡ q =
         only own_row q x.index (ap (λ l. slice_get l x.index) (sym (alone x.number x.coded x.body r.0 r.1)) ∙ x.among) in
-        let back = is_returned x.number x.coded x.body r.0 r.1 in
+        let back = is_returned x.number x.coded x.body r.0 r.1 x.there in
         record {
           number = x.number;
           body = x.coded;
           there = x.there;
           lies = lies_at x.number x.coded x.body x.index q x.among;
           index = 0;
-          statement = back.0;
+          construct = OfStatement back.0;
           among = back.1;
-          tells = inr (subst (λ z. TellsReturn i x.number z back.0) same (own_tells x.number x.coded x.body r.0 r.1));
+          tells = inr (subst (λ z. TellsReturn i x.number z (OfStatement back.0)) same (own_tells x.number x.coded x.body r.0 r.1 x.there));
         }
 
     pub each_told : (index : ℕ) (q : PlaceRow) → slice_get table index ≡ Some q → TellsOfBody t i g numbers q
@@ -242,13 +254,13 @@ module _ (t : ProgramTree) (i : Sections) (h : HasProgram t i) (laws : LawsOfNam
 
     told_by_result : (number : ℕ) (c : Coded) (there : slice_get (bodies_of t) number ≡ Some c) (body : HasBody t h.directory number c h.walk)
         → (c.head.result ≡ None) ⊎ ((r : Identifier) × (c.head.result ≡ Some r))
-        → TellsBody i program g numbers number c.head.result body.keeps.rows.placed (statements_of c)
+        → TellsBody i program g numbers number c.head.result body.keeps.rows.placed (constructs_of c)
     told_by_result number c there body (inl none) =
-        subst (λ r. TellsBody i program g numbers number r body.keeps.rows.placed (statements_of c)) (sym none) (body_places number c there number body none)
+        subst (λ r. TellsBody i program g numbers number r body.keeps.rows.placed (constructs_of c)) (sym none) (body_places number c there number body none)
     told_by_result number c there body (inr r) =
-        let back = is_returned number c body r.0 r.1 in
-        subst (λ o. TellsBody i program g numbers number o body.keeps.rows.placed (statements_of c)) (sym r.1)
-        (own number c body r.0 r.1, back.0, alone number c body r.0 r.1, back.1, own_tells number c body r.0 r.1)
+        let back = is_returned number c body r.0 r.1 there in
+        subst (λ o. TellsBody i program g numbers number o body.keeps.rows.placed (constructs_of c)) (sym r.1)
+        (own number c body r.0 r.1, OfStatement back.0, alone number c body r.0 r.1, back.1, own_tells number c body r.0 r.1 there)
 
     pub bodies_told : (number : ℕ) (c : Coded) → slice_get (bodies_of t) number ≡ Some c → HasBodyRows i program g numbers table number c
     bodies_told number c there =

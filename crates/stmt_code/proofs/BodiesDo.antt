@@ -27,7 +27,7 @@ use Rattle.part_code.proofs.OpenWays.{opens_return, sequence_opened}
 use Rattle.stmt_code.specs.Drafting.{CodePart, Drafted, Start}
 use Rattle.stmt_code.specs.Emitting.{AddsRows, AreAcceptedHandlers, AreAcceptedStatements, EmitsRun, HasLabels, IsAcceptedRun, IsHandled, Meant, Serves, TellPlaces, no_ways, seeing}
 use Rattle.stmt_code.specs.Leaves.{any_leave, handlers_leave}
-use Rattle.stmt_code.specs.Placing.{sequence_within}
+use Rattle.stmt_code.specs.Placing.{body_within, sequence_within}
 use Rattle.stmt_code.specs.StatementCode.{Site, after_locals, handlers_code, in_body, locals_code, run_code, sequence_code, stmts_code, with_way}
 use Rattle.stmt_code.specs.declared.draft.Draft.{Draft}
 use Rattle.stmt_code.specs.declared.leaves.WayOut.TheVariants as way
@@ -74,7 +74,7 @@ abbrev pub IsBody : BodyTree → Meant
 IsBody b i program g numbers f r from to = r ≡ unhandled → IsRun i program g numbers f from to b.declarations b.statements b.handlers
 
 module _ (v : Visible) (old new : Draft) (b : BodyTree) (h : AddsRun v old b new)
-    (does : Does (IsBody b) (site_of v old) (sequence_within b.statements b.handlers) (run_code (site_of v old) b)) where
+    (does : Does (IsBody b) (site_of v old) (body_within b.declarations b.statements b.handlers) (run_code (site_of v old) b)) where
   abbrev piece : Piece
   piece base = (run_code (site_of v old) b (record { place = base; labels = old.labels })).code
 
@@ -122,7 +122,7 @@ module _ (v : Visible) (old new : Draft) (b : BodyTree) (h : AddsRun v old b new
         (does.stands i program g numbers f r (start_of old) (here new.code) (served i program g numbers f r names serves handled)
         (stands_by i program r f.room holds l room handled)).is;
     tells = λ i holds l program g numbers f names serves room r handled.
-        subst (λ x. TellPlaces i program g numbers x (sequence_within b.statements b.handlers)) (sym h.placed)
+        subst (λ x. TellPlaces i program g numbers x (body_within b.declarations b.statements b.handlers)) (sym h.placed)
         (does.stands i program g numbers f r (start_of old) (here new.code) (served i program g numbers f r names serves handled)
         (stands_by i program r f.room holds l room handled)).tells;
     flows = λ i s low high down up holds l suits deep wide ends ways.
@@ -204,7 +204,7 @@ module _ (laws : StatementLaws) (statics : StaticIsValue) (c : Site) (b : BodyTr
       ))
       leaves sequence_does
 
-  pub run_works : Does (IsBody b) c (sequence_within b.statements b.handlers) (run_code c b)
+  pub run_works : Does (IsBody b) c (body_within b.declarations b.statements b.handlers) (run_code c b)
   run_works =
       does_after (IsEntered b.statements b.handlers) (IsBody b) c b.declarations (sequence_within b.statements b.handlers) (locals_code c b.declarations)
       (with_way leaves sequence) (locals_do laws statics c b.declarations full legal.declared allowed) entered_does

@@ -24,7 +24,7 @@ use Rattle.part_code.specs.Suiting.{SuitsStatements}
 use Rattle.part_code.proofs.PieceNeeds.{Laws}
 use Rattle.stmt_code.specs.Drafting.{CodePart, after, coded, skipping, ◌▹◌}
 use Rattle.stmt_code.specs.Emitting.{Meant}
-use Rattle.stmt_code.specs.Placing.{elsifs_within, stmts_within}
+use Rattle.stmt_code.specs.Placing.{Construct, elsifs_within, stmts_within}
 use Rattle.stmt_code.specs.StatementCode.{Site, elsifs_code, fork_code, if_code, stmts_code}
 use Rattle.stmt_code.proofs.PartsDo.{Does, IsOfNothing, does_as, flows_coded, flows_fork, flows_tested, flows_then}
 use Rattle.stmt_code.proofs.PartsStand.{both_stand_by, coded_goes, coded_has, end_of, inside, skip_end_by, skip_stands_by, tidy_coded, tidy_skipping, tidy_then}
@@ -48,7 +48,7 @@ works_leads v d e x w = record {
 
 module _ (c : Site) (e : ExprTree) (x : Piece) (w : Works c.visible 0 1 e x) where
   -- and where it doesn't
-  pub does_fork : (P Q : Meant) (xs ys : List StmtTree) (a b : CodePart) → Does P c xs a → Does Q c ys b
+  pub does_fork : (P Q : Meant) (xs ys : List Construct) (a b : CodePart) → Does P c xs a → Does Q c ys b
       → Does
       (λ i program g numbers f r from to. IsBranch i program g numbers f r from to e (λ m n. P i program g numbers f r m n) (λ m n. Q i program g numbers f r m n))
       c (xs ++ ys) (coded x ▹ skipping 1 1 op.JumpIfZero a ▹ skipping 0 0 op.Jump b)
@@ -105,7 +105,7 @@ module _ (c : Site) (e : ExprTree) (x : Piece) (w : Works c.visible 0 1 e x) whe
       }
 
   -- and nothing where it doesn't
-  pub does_guarded : (P Q : Meant) (xs : List StmtTree) (a : CodePart)
+  pub does_guarded : (P Q : Meant) (xs : List Construct) (a : CodePart)
       → IsOfNothing Q
       → Does P c xs a
       → Does

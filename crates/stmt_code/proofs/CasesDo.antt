@@ -3,7 +3,7 @@ use Rattle.std.proofs.Common.{◌≡◌, ◌≢◌, ℕ, suc, ◌+◌, ◌*◌, 
 use Rattle.std.specs.Prelude.{slice_get}
 use Rattle.kernel.specs.Laws.{QuietStays}
 use Rattle.ada_tree.specs.ExpressionTree.{ExprTree}
-use Rattle.ada_tree.specs.StatementTree.{AlternativeTrees, Case, MoreAlternatives, NoAlternatives, OtherValues, StmtTree, StmtTrees, Values}
+use Rattle.ada_tree.specs.StatementTree.{AlternativeTrees, Case, MoreAlternatives, NoAlternatives, OtherValues, StmtTrees, Values}
 use Rattle.image.specs.Sections.{Sections}
 use Rattle.image.specs.Rules.{has_depth}
 use Rattle.image.specs.declared.instruction.Operation.TheVariants as op
@@ -48,7 +48,7 @@ use Rattle.part_code.proofs.Selecting.{Wants, choice_legal, scalar_there, static
 use Rattle.part_code.proofs.Walking.{behind}
 use Rattle.stmt_code.specs.Drafting.{CodePart, Start, after, coded, skipping, ◌▹◌}
 use Rattle.stmt_code.specs.Emitting.{Allows, Meant}
-use Rattle.stmt_code.specs.Placing.{alternatives_within, stmts_within}
+use Rattle.stmt_code.specs.Placing.{Construct, alternatives_within, stmts_within}
 use Rattle.stmt_code.specs.SimpleCode.{choice_word, choices_code, test_code, tests_code}
 use Rattle.stmt_code.specs.StatementCode.{Site, alternative_code, chosen_code}
 use Rattle.stmt_code.proofs.BranchesDo.{AreBody, IsOne, works_leads}
@@ -277,7 +277,7 @@ drop_leads v = leads_one (SuitsStatements v) 1 0 op.Drop (λ e. record {
 abbrev pub IsDropped : Meant → Meant
 IsDropped P i program g numbers f r from to = At i from op.Drop × (suc from ≤ to) × P i program g numbers f r (suc from) to
 
-does_chosen : (P : Meant) (c : Site) (xs : List StmtTree) (b : CodePart) → Does P c xs b → DoesFrom 1 (IsDropped P) c xs (chosen_code b)
+does_chosen : (P : Meant) (c : Site) (xs : List Construct) (b : CodePart) → Does P c xs b → DoesFrom 1 (IsDropped P) c xs (chosen_code b)
 unfolding ◌▹◌ coded
 does_chosen P c xs b p =
     let drop = coded (one 1 op.Drop) in

@@ -17,11 +17,10 @@ use Rattle.part_code.specs.Needs.{with_object}
 use Rattle.part_code.specs.Statements.{Ways}
 use Rattle.type_rules.specs.SubtypeNames.{subtype_of}
 use Rattle.types.specs.Scopes.{Scope}
-use Rattle.types.specs.declared.entity.Subtype.{Subtype}
 use Rattle.stmt_code.specs.Declaring.{AddsLocals, site_at}
-use Rattle.stmt_code.specs.Drafting.{CodePart, Sketched, adds, coded, ◌▹◌}
+use Rattle.stmt_code.specs.Drafting.{CodePart, Sketched, adds, coded, end_of, marked, marks, ◌▹◌}
 use Rattle.stmt_code.specs.StatementCode.{Site, after_local, after_locals, local_code, local_object, locals_code, words_taken}
-use Rattle.stmt_code.proofs.PartsAdded.{adds_nothing, adds_then}
+use Rattle.stmt_code.proofs.PartsAdded.{adds_nothing, adds_then, marks_added}
 
 -- ---- one declaration
 
@@ -36,22 +35,19 @@ one_declared v later taken more old new d made next = record {
   next = next;
 }
 
-pub object_declared : (v later : Visible) (taken more : ℕ) (old new : Sketched) (d : ObjectTree) (o : Option Subtype) (offset : ℕ)
-    → subtype_of v.scope d.subtype ≡ o → new ≡ adds old (local_object v taken o d.value) → offset ≡ narrow taken
-    → later ≡ with_object v (local_scope v.scope (LocalObject d)) offset → more ≡ taken + words_taken v.scope o
+pub object_declared : (v later : Visible) (taken more : ℕ) (old mid new : Sketched) (d : ObjectTree) (first offset : ℕ) → first ≡ end_of old
+    → mid ≡ adds old (local_object v taken (subtype_of v.scope d.subtype) d.value)
+    → new ≡ marks mid first d.name.place
+    → offset ≡ narrow taken
+    → later ≡ with_object v (local_scope v.scope (LocalObject d)) offset
+    → more ≡ taken + words_taken v.scope (subtype_of v.scope d.subtype)
     → AddsLocals v taken old (LocalObject d ∷ []) later more new
-object_declared v later taken more old new d o offset same made at shown is =
-    let s = local_scope v.scope (LocalObject d) in
-    let seen : later ≡ with_object v s (narrow taken) = shown ∙ ap (with_object v s) at in
-    let many : more ≡ taken + words_taken v.scope (subtype_of v.scope d.subtype) = is ∙ ap (λ x. taken + words_taken v.scope x) (sym same) in
-    one_declared v later taken more old new (LocalObject d) (λ w exceptions. made ∙ ap (λ x. adds old (local_object v taken x d.value)) (sym same))
-    (λ w exceptions. sym (λ j. site_at (seen j) (many j) w exceptions))
-
-pub without_subtype : (v later : Visible) (taken : ℕ) (old : Sketched) (d : ObjectTree) (offset : ℕ)
-    → subtype_of v.scope d.subtype ≡ None → offset ≡ narrow taken → later ≡ with_object v (local_scope v.scope (LocalObject d)) offset
-    → AddsLocals v taken old (LocalObject d ∷ []) later taken old
-without_subtype v later taken old d offset same at shown =
-    object_declared v later taken taken old old d None offset same (sym (adds_nothing old)) at shown (omega arith)
+object_declared v later taken more old mid new d first offset begins made marked_there at shown many =
+    let seen : later ≡ with_object v (local_scope v.scope (LocalObject d)) (narrow taken) = shown ∙ ap (with_object v (local_scope v.scope (LocalObject d))) at in
+    let a = local_object v taken (subtype_of v.scope d.subtype) d.value in
+    let whole : new ≡ adds old (marked d.name.place a) =
+    marked_there ∙ ap (λ m. marks m first d.name.place) made ∙ marks_added old a first d.name.place begins in
+    one_declared v later taken more old new (LocalObject d) (λ w exceptions. whole) (λ w exceptions. sym (λ j. site_at (seen j) (many j) w exceptions))
 
 pub task_declared : (v : Visible) (taken : ℕ) (old : Sketched) (d : TaskTree) → AddsLocals v taken old (LocalTask d ∷ []) v taken old
 task_declared v taken old d = one_declared v v taken taken old old (LocalTask d) (λ w exceptions. sym (adds_nothing old)) (λ w exceptions. refl)

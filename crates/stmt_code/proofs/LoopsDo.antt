@@ -3,7 +3,7 @@ use Rattle.std.proofs.Common.{◌≡◌, ℕ, suc, ◌+◌, ◌≤◌, List, Boo
 use Rattle.std.specs.Prelude.{is_some, slice_get}
 use Rattle.std.proofs.lemmas.List.{append-nil}
 use Rattle.ada_tree.specs.ExpressionTree.{ExprTree}
-use Rattle.ada_tree.specs.StatementTree.{Forever, Loop, StmtTree, StmtTrees, While}
+use Rattle.ada_tree.specs.StatementTree.{Forever, Loop, StmtTrees, While}
 use Rattle.image.specs.Sections.{Sections}
 use Rattle.image.specs.Rules.{has_depth}
 use Rattle.image.specs.declared.instruction.Operation.TheVariants as op
@@ -29,7 +29,7 @@ use Rattle.part_code.proofs.Lists.{some_same}
 use Rattle.stmt_code.specs.Drafting.{CodePart, Start, after, begun, coded, skipping, ◌▹◌}
 use Rattle.stmt_code.specs.Emitting.{Allows, Meant, TellPlaces}
 use Rattle.stmt_code.specs.Leaves.{any_leave}
-use Rattle.stmt_code.specs.Placing.{stmts_within}
+use Rattle.stmt_code.specs.Placing.{Construct, stmts_within}
 use Rattle.stmt_code.specs.StatementCode.{Site, stmts_code, turned, while_code, with_way}
 use Rattle.stmt_code.specs.declared.leaves.WayOut.TheVariants as way
 use Rattle.stmt_code.proofs.BranchesDo.{AreBody, IsOne, works_leads}
@@ -67,7 +67,7 @@ served_there : (program : Program) (g : Package) (numbers : Numbers) (f : Framed
     → IsServed program g numbers f c → IsServed program g numbers f (leaving c w exit)
 served_there program g numbers f c w exit h = record { names = h.names; serves = h.serves; exceptions = h.exceptions; named = h.named }
 
-module _ (c : Site) (w : Option ℕ → Ways) (P : Option ℕ → Meant) (Is : Meant) (xs : List StmtTree) (a : Option ℕ → CodePart) (allows : AllowsWay c.ways w)
+module _ (c : Site) (w : Option ℕ → Ways) (P : Option ℕ → Meant) (Is : Meant) (xs : List Construct) (a : Option ℕ → CodePart) (allows : AllowsWay c.ways w)
     (means : MeansBehind P Is) where
   -- no way out
   without_way : Does (P None) (leaving c w None) xs (a None) → Does Is c xs (a None)
@@ -200,7 +200,7 @@ module _ (c : Site) (w : Option ℕ → Ways) (P : Option ℕ → Meant) (Is : M
 abbrev pub IsRepeated : Meant → Meant
 IsRepeated P i program g numbers f r from to = (back : ℕ) × (from ≤ back) × P i program g numbers f r from back × At i back (op.Jump from) × (to ≡ suc back)
 
-module _ (c : Site) (P : Meant) (xs : List StmtTree) (a : CodePart) (p : Does P c xs a) where
+module _ (c : Site) (P : Meant) (xs : List Construct) (a : CodePart) (p : Does P c xs a) where
   abbrev jump_back : ℕ → CodePart
   jump_back turn = coded (one 0 (op.Jump (narrow turn)))
 
@@ -257,7 +257,7 @@ IsRepeatedWhile e P i program g numbers f r from to =
     × (to ≡ suc back)
     × GoesBy i r from mid
 
-module _ (c : Site) (e : ExprTree) (w : Works c.visible 0 1 e (expr_code c.visible 0 e)) (P : Meant) (xs : List StmtTree) (a : CodePart) (p : Does P c xs a)
+module _ (c : Site) (e : ExprTree) (w : Works c.visible 0 1 e (expr_code c.visible 0 e)) (P : Meant) (xs : List Construct) (a : CodePart) (p : Does P c xs a)
   where
     abbrev value : CodePart
     value = coded (expr_code c.visible 0 e)

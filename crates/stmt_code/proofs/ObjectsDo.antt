@@ -46,8 +46,9 @@ use Rattle.part_code.proofs.FullWords.{some_words}
 use Rattle.part_code.proofs.Initials.{form_there, initial_word, shape_there}
 use Rattle.part_code.proofs.ObjectNames.{less_true}
 use Rattle.part_code.proofs.StoresAt.{store_changes}
-use Rattle.stmt_code.specs.Drafting.{CodePart, Start, coded, takes, ◌▹◌}
-use Rattle.stmt_code.specs.Emitting.{Serves, seeing}
+use Rattle.stmt_code.specs.Drafting.{CodePart, Start, coded, marked, takes, ◌▹◌}
+use Rattle.stmt_code.specs.Emitting.{Serves, TellPlaces, seeing}
+use Rattle.stmt_code.specs.Placing.{local_within}
 use Rattle.stmt_code.specs.StatementCode.{Site, after_local, local_code, local_object, words_taken}
 use Rattle.stmt_code.proofs.Declared.{initial_fit, local_subtype}
 use Rattle.stmt_code.proofs.DeclarationsDo.{DoesDeclare}
@@ -55,7 +56,7 @@ use Rattle.stmt_code.proofs.FirstWords.{words_first}
 use Rattle.stmt_code.proofs.LocalNames.{known, later, narrows, role, serves_later, slot, spares, subtype_there, suits_later, widens}
 use Rattle.stmt_code.proofs.CoveredScopes.{IsFull}
 use Rattle.stmt_code.proofs.PartsDo.{IsServed, StatementLaws}
-use Rattle.stmt_code.proofs.PartsStand.{coded_has, tidy_coded, tidy_takes, tidy_then, words_have, words_kept_in}
+use Rattle.stmt_code.proofs.PartsStand.{coded_has, end_of, marked_has, marked_in, tidy_coded, tidy_marked, tidy_takes, tidy_then, words_have, words_kept_in}
 use Rattle.stmt_code.proofs.TurnsDo.{one_before}
 
 -- ---- words that are put on the operand stack one by one
@@ -394,29 +395,42 @@ module _ (laws : StatementLaws) (c : Site) (full : IsFull c) (d : ObjectTree) (t
   next_taken : c.taken + words_in v.scope t ≡ next.taken
   next_taken = ap (λ o. c.taken + words_taken v.scope o) (sym named)
 
-  none_at_all : (s : Start) → ((whole s).rows ≡ []) × ((whole s).places ≡ [])
-  unfolding ◌▹◌ takes coded
-  none_at_all s = (refl, refl)
+  abbrev place : ℕ
+  place = d.name.place
+
+  no_rows : (s : Start) → (marked place whole s).rows ≡ []
+  unfolding ◌▹◌ takes coded marked
+  no_rows s = refl
+
+  -- the row of its place tells of it
+  told : (i : Sections) (program : Program) (g : Package) (numbers : Numbers) (f : Framed) (s : Start) (after : Framed) → IsServed program g numbers f c
+      → IsDeclared i program g numbers f s.place (end_of s whole) after (LocalObject d)
+      → TellPlaces i program g numbers (marked place whole s).places (local_within (LocalObject d))
+  unfolding ◌▹◌ takes coded marked
+  told i program g numbers f s after served is =
+      (record { place = refl; frame = f; taken = c.taken; serves = served.serves; code = (after, is) }, tt)
 
   coded_deep : (u : Subprogram) (s : Start) → deepest_of (code s).code ≤ u.stack → deepest_of (object_code v offset t d.value s.place) ≤ u.stack
   unfolding coded
   coded_deep u s h = h
 
-  pub declares_there : DoesDeclare c (LocalObject d) whole
+  pub declares_there : DoesDeclare c (LocalObject d) (marked place whole)
   declares_there = record {
-    tidy = tidy_then (takes (c.taken + size)) code (tidy_takes (c.taken + size)) (tidy_coded (object_code v offset t d.value));
-    rows = λ s. (none_at_all s).0;
-    places = λ s. (none_at_all s).1;
+    tidy = tidy_marked place whole
+        (tidy_then (takes (c.taken + size)) code (tidy_takes (c.taken + size)) (tidy_coded (object_code v offset t d.value)));
+    rows = no_rows;
     declares = λ i program g numbers f s to served h.
-        let words = words_have i f.room s to (c.taken + size) code (tidy_coded (object_code v offset t d.value)).grows h in
+        let inner = marked_has i f.room s to place whole h in
+        let words = words_have i f.room s to (c.taken + size) code (tidy_coded (object_code v offset t d.value)).grows inner in
         let same = size_there words.wide in
         let at = offset_there words.wide in
         let fits = words.fits in
         let room : c.taken + words_of v.scope t ≤ f.room = omega (arith, fits, same) in
         let being : IsBeing i program g numbers f = record { served = served; offset_is = at; size_is = same; room = room } in
         let after_this = seeing f (later v offset d t full.sound full.entries legal named) in
+        let is = object_works.is same i program g numbers f being s.place to (coded_has i f.room s to (object_code v offset t d.value) words.rest) in
         record {
-          is = object_works.is same i program g numbers f being s.place to (coded_has i f.room s to (object_code v offset t d.value) words.rest);
+          is = is;
           narrows = narrows v offset d t full.sound full.entries legal named laws.kept laws.shaped laws.stay program g numbers f c.taken served.names served.serves
               at room;
           served = record {
@@ -427,10 +441,13 @@ module _ (laws : StatementLaws) (c : Site) (full : IsFull c) (d : ObjectTree) (t
             exceptions = served.exceptions;
             named = served.named;
           };
+          tells = told i program g numbers f s (seeing f next.visible) served
+              (subst (λ n. IsDeclared i program g numbers f s.place n (seeing f next.visible) (LocalObject d)) inner.ends is);
         };
     flows = record {
       flows = λ i u low high s to k suits allows out ends.
-          let words = words_kept_in i u low high s to (c.taken + size) code (tidy_coded (object_code v offset t d.value)).grows k in
+          let inner = marked_in i u low high s to place whole k in
+          let words = words_kept_in i u low high s to (c.taken + size) code (tidy_coded (object_code v offset t d.value)).grows inner in
           let same = size_there words.wide in
           let at = offset_there words.wide in
           let fits = words.fits in
@@ -440,7 +457,8 @@ module _ (laws : StatementLaws) (c : Site) (full : IsFull c) (d : ObjectTree) (t
           (suits.names, omega (arith, at, fits)) (coded_deep u s words.rest.deep) out ends);
     };
     suits = λ i u s to h suits.
-        let words = words_have i u.locals s to (c.taken + size) code (tidy_coded (object_code v offset t d.value)).grows h in
+        let inner = marked_has i u.locals s to place whole h in
+        let words = words_have i u.locals s to (c.taken + size) code (tidy_coded (object_code v offset t d.value)).grows inner in
         let same = size_there words.wide in
         let at = offset_there words.wide in
         let fits = words.fits in
@@ -453,6 +471,6 @@ pub object_does : StatementLaws → (c : Site) (d : ObjectTree) → IsFull c →
 object_does laws c d full legal = by_subtype (subtype_of c.visible.scope d.subtype) refl
   where
     by_subtype : (o : Option Subtype) → subtype_of c.visible.scope d.subtype ≡ o
-        → DoesDeclare c (LocalObject d) (local_object c.visible c.taken o d.value)
+        → DoesDeclare c (LocalObject d) (marked d.name.place (local_object c.visible c.taken o d.value))
     by_subtype (Some t) named = declares_there laws c full d t legal named
     by_subtype None named = absurd (local_subtype c.visible.scope full.sound d legal named)

@@ -29,7 +29,7 @@ use Rattle.part_code.proofs.Jumps.{jump_kept}
 use Rattle.part_code.proofs.PieceNeeds.{Laws}
 use Rattle.stmt_code.specs.Drafting.{CodePart, Start, after, coded, marked, skipping, ◌▹◌}
 use Rattle.stmt_code.specs.Emitting.{Allows, Meant, Serves, TellPlaces}
-use Rattle.stmt_code.specs.Placing.{stmt_place, stmt_within}
+use Rattle.stmt_code.specs.Placing.{Construct, OfStatement, stmt_place, stmt_within}
 use Rattle.stmt_code.specs.StatementCode.{Site}
 use Rattle.stmt_code.proofs.PartsStand.{IsTidy, KeepsLabels, KeptIn, StandsBy, both_kept_in, both_stand_by, coded_has, end_of, grows_skipping, inside, marked_by, marked_in, skip_end_in, skip_kept_in, tidy_coded, tidy_marked, tidy_then}
 use Rattle.stmt_code.proofs.PlacesAdded.{tells_then}
@@ -56,8 +56,8 @@ pub record IsServed (program : Program) (g : Package) (numbers : Numbers) (f : F
   pub exceptions : program.exceptions ≡ c.exceptions
   pub named : AreNamed program
 
--- what it is in an image, and that its rows tell of these statements
-pub record Means (Is : Meant) (i : Sections) (program : Program) (g : Package) (numbers : Numbers) (f : Framed) (r : Handling) (within : List StmtTree)
+-- what it is in an image, and that its rows tell of these statements and declarations
+pub record Means (Is : Meant) (i : Sections) (program : Program) (g : Package) (numbers : Numbers) (f : Framed) (r : Handling) (within : List Construct)
     (s : Start) (to : ℕ) (a : CodePart) : Type 0 where
   pub is : Is i program g numbers f r s.place to
   pub tells : TellPlaces i program g numbers (a s).places within
@@ -70,9 +70,9 @@ pub record Flows (v : Visible) (w : Ways) (before behind : ℕ) (a : CodePart) :
       → has_depth i to behind ≡ true
       → AreKeptBetween i u low high s.place to before
 
--- the code of a part at a site, which finds so many words on the operand stack: what it does, of which statements its rows tell, and that it keeps the rules of
--- images
-pub record DoesFrom (before : ℕ) (Is : Meant) (c : Site) (within : List StmtTree) (a : CodePart) : Type 0 where
+-- the code of a part at a site, which finds so many words on the operand stack: what it does, of which statements and declarations its rows tell, and that it
+-- keeps the rules of images
+pub record DoesFrom (before : ℕ) (Is : Meant) (c : Site) (within : List Construct) (a : CodePart) : Type 0 where
   pub tidy : IsTidy a
   pub stands : (i : Sections) (program : Program) (g : Package) (numbers : Numbers) (f : Framed) (r : Handling) (s : Start) (to : ℕ)
       → IsServed program g numbers f c
@@ -80,11 +80,11 @@ pub record DoesFrom (before : ℕ) (Is : Meant) (c : Site) (within : List StmtTr
       → Means Is i program g numbers f r within s to a
   pub flows : Flows c.visible c.ways before 0 a
 
-abbrev pub Does : (Is : Meant) (c : Site) (within : List StmtTree) (a : CodePart) → Type 0
+abbrev pub Does : (Is : Meant) (c : Site) (within : List Construct) (a : CodePart) → Type 0
 Does = DoesFrom 0
 
 -- the same code, as what it also means
-pub does_as : (P Q : Meant) (c : Site) (xs ys : List StmtTree) (a : CodePart)
+pub does_as : (P Q : Meant) (c : Site) (xs ys : List Construct) (a : CodePart)
     → ((i : Sections) (program : Program) (g : Package) (numbers : Numbers) (f : Framed) (r : Handling) (from to : ℕ)
     → P i program g numbers f r from to → Q i program g numbers f r from to)
     → xs ≡ ys → Does P c xs a → Does Q c ys a
@@ -203,7 +203,7 @@ does_nothing Is c same = record {
   flows = flows_coded c.visible c.ways 0 0 nothing (fits_none {Unfit = ⊤} (SuitsStatements c.visible) 0 0).leads;
 }
 
-pub does_then : (P Q R : Meant) (c : Site) (xs ys : List StmtTree) (a b : CodePart)
+pub does_then : (P Q R : Meant) (c : Site) (xs ys : List Construct) (a b : CodePart)
     → ((i : Sections) (program : Program) (g : Package) (numbers : Numbers) (f : Framed) (r : Handling) (from mid to : ℕ)
     → from ≤ mid → mid ≤ to
     → P i program g numbers f r from mid → Q i program g numbers f r mid to → R i program g numbers f r from to)
@@ -228,7 +228,8 @@ does_then P Q R c xs ys a b both p q = record {
 
 pub does_marked : (c : Site) (x : StmtTree) (a : CodePart)
     → Does (λ i program g numbers f r from to. IsStatement i program g numbers f c.ways r from to x) c (stmt_within x) a
-    → Does (λ i program g numbers f r from to. IsStatement i program g numbers f c.ways r from to x) c (stmt_within x ++ x ∷ []) (marked (stmt_place x) a)
+    → Does (λ i program g numbers f r from to. IsStatement i program g numbers f c.ways r from to x) c (stmt_within x ++ OfStatement x ∷ [])
+    (marked (stmt_place x) a)
 unfolding marked
 does_marked c x a p = record {
   tidy = tidy_marked (stmt_place x) a p.tidy;
@@ -238,15 +239,13 @@ does_marked c x a p = record {
       record {
         is = it.is;
         tells = tells_then i program g numbers (a s).places ((record { first = s.place; behind = end_of s a; place = stmt_place x }) ∷ []) (stmt_within x)
-            (x ∷ []) it.tells (
+            (OfStatement x ∷ []) it.tells (
               record {
                 place = refl;
                 frame = f;
                 taken = c.taken;
                 serves = served.serves;
-                ways = c.ways;
-                handling = r;
-                code = subst (λ n. IsStatement i program g numbers f c.ways r s.place n x) inner.part.ends it.is;
+                code = (c.ways, r, subst (λ n. IsStatement i program g numbers f c.ways r s.place n x) inner.part.ends it.is);
               },
               tt,
             );

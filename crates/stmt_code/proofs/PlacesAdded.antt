@@ -1,14 +1,13 @@
--- Rows of places that are added with code: how they lie where parts stand one behind the other, and of which statements they tell.
+-- Rows of places that are added with code: how they lie where parts stand one behind the other, and of which statements and declarations they tell.
 use Rattle.std.proofs.Common.{◌≡◌, ℕ, zero, suc, ◌≤◌, inl, inr, List, [], ◌∷◌, ◌++◌, All, Some, refl, subst, arith}
 use Rattle.std.specs.Prelude.{slice_get}
 use Rattle.std.proofs.lemmas.List.Elements.{All-append, All-cons, All-head, All-nil, All-tail, All-weaker}
-use Rattle.ada_tree.specs.StatementTree.{StmtTree}
 use Rattle.image.specs.Sections.{Sections}
 use Rattle.expr_soundness.specs.meaning.specs.Programs.{Program}
 use Rattle.expr_code.specs.Seeing.{Package}
 use Rattle.part_code.specs.Statements.{Numbers}
 use Rattle.stmt_code.specs.Emitting.{TellPlaces, TellsPlace}
-use Rattle.stmt_code.specs.Placing.{AreInnermostFirst, IsInnerOrBefore, StandsBetween}
+use Rattle.stmt_code.specs.Placing.{AreInnermostFirst, Construct, IsInnerOrBefore, StandsBetween}
 use Rattle.stmt_code.specs.declared.tables.PlaceRow.{PlaceRow}
 
 -- ---- how they lie
@@ -44,9 +43,9 @@ innermost_around q (r ∷ one) inside p = (
   innermost_around q one (All-tail (StandsBetween q.first q.behind) r one inside) p.1,
 )
 
--- ---- of which statements they tell
+-- ---- of what they tell
 
-pub tells_then : (i : Sections) (program : Program) (g : Package) (numbers : Numbers) (one two : List PlaceRow) (xs ys : List StmtTree)
+pub tells_then : (i : Sections) (program : Program) (g : Package) (numbers : Numbers) (one two : List PlaceRow) (xs ys : List Construct)
     → TellPlaces i program g numbers one xs → TellPlaces i program g numbers two ys → TellPlaces i program g numbers (one ++ two) (xs ++ ys)
 tells_then i program g numbers [] two [] ys p q = q
 tells_then i program g numbers [] two (x ∷ xs) ys p q = absurd p
@@ -56,10 +55,10 @@ tells_then i program g numbers (r ∷ one) two (x ∷ xs) ys p q = (p.0, tells_t
 some_same : {X : Type 0} (x y : X) → Some x ≡ Some y → x ≡ y
 some_same x y e = cc
 
--- the statement of a row, and the row of a statement
-pub told_row : (i : Sections) (program : Program) (g : Package) (numbers : Numbers) (rows : List PlaceRow) (xs : List StmtTree)
+-- what a row tells of
+pub told_row : (i : Sections) (program : Program) (g : Package) (numbers : Numbers) (rows : List PlaceRow) (xs : List Construct)
     → TellPlaces i program g numbers rows xs → (n : ℕ) (q : PlaceRow) → slice_get rows n ≡ Some q
-    → (x : StmtTree) × (slice_get xs n ≡ Some x) × TellsPlace i program g numbers q x
+    → (x : Construct) × (slice_get xs n ≡ Some x) × TellsPlace i program g numbers q x
 told_row i program g numbers [] [] p n q e = cc
 told_row i program g numbers [] (x ∷ xs) p n q e = absurd p
 told_row i program g numbers (r ∷ rows) [] p n q e = absurd p

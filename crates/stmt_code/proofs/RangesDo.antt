@@ -3,7 +3,7 @@ use Rattle.std.proofs.Common.{◌≡◌, ℕ, suc, ◌+◌, ◌≤◌, List, [],
 use Rattle.std.specs.Prelude.{is_some, pos, slice_get}
 use Rattle.std.proofs.lemmas.List.{append-nil}
 use Rattle.ada_tree.specs.declared.expression.Identifier.{Identifier}
-use Rattle.ada_tree.specs.StatementTree.{For, Loop, RangeTree, StmtTree, StmtTrees}
+use Rattle.ada_tree.specs.StatementTree.{For, Loop, RangeTree, StmtTrees}
 use Rattle.handlers.specs.declared.rows.Row.{Row}
 use Rattle.image.specs.Sections.{Sections}
 use Rattle.image.specs.Rules.{has_depth}
@@ -35,7 +35,7 @@ use Rattle.part_code.proofs.Walking.{behind}
 use Rattle.stmt_code.specs.Drafting.{CodePart, Start, after, begun, coded, skipping, takes, ◌▹◌}
 use Rattle.stmt_code.specs.Emitting.{Allows, Meant, Serves, TellPlaces, seeing}
 use Rattle.stmt_code.specs.Leaves.{any_leave}
-use Rattle.stmt_code.specs.Placing.{stmts_within}
+use Rattle.stmt_code.specs.Placing.{Construct, stmts_within}
 use Rattle.stmt_code.specs.SimpleCode.{bounds_code, last_code, next_code, null_code}
 use Rattle.stmt_code.specs.StatementCode.{Site, counted_code, in_turn, ranged_code, stmts_code, turns_at, with_way}
 use Rattle.stmt_code.specs.Turns.{is_full}
@@ -67,7 +67,7 @@ IsCountedLoop c parameter reversed range body i program g numbers f r from to =
     × GoesBy i r from k.start
     × GoesBy i r k.back to
 
-module _ (laws : StatementLaws) (c : Site) (parameter : Identifier) (reversed : Bool) (range : RangeTree) (body : StmtTrees) (xs : List StmtTree) (b : CodePart)
+module _ (laws : StatementLaws) (c : Site) (parameter : Identifier) (reversed : Bool) (range : RangeTree) (body : StmtTrees) (xs : List Construct) (b : CodePart)
     (sound : SoundScope c.visible.scope) (entries : HasEntries c.visible) (legal : loop_faults c.visible.scope parameter range ≡ [])
     (of_type : IsOfIntegers c.visible.scope range) (x : Works c.visible 0 1 range.first (expr_code c.visible 0 range.first))
     (y : Works c.visible 1 1 range.last (expr_code c.visible 1 range.last))

@@ -77,8 +77,8 @@ put place label e =
 abbrev single : StmtTree → StmtTrees
 single x = MoreStmts x NoStmts
 
-abbrev local : List ℕ → (subtype : List ℕ) → DeclarationTree
-local name subtype = LocalObject (record { name = identifier 0 name; constant = false; subtype = identifier 0 subtype; value = None })
+abbrev local : (place : ℕ) → List ℕ → (subtype : List ℕ) → DeclarationTree
+local place name subtype = LocalObject (record { name = identifier place name; constant = false; subtype = identifier 0 subtype; value = None })
 
 -- `if N < 1 then Put ("low", N); elsif N < 5 then Put ("middle", L); else Put ("low", L); end if;`
 abbrev branches : StmtTree
@@ -116,7 +116,7 @@ handling =
 -- these one after another, after `L : Integer; C : Row;`, and `return;`
 abbrev body : BodyTree
 body = record {
-  declarations = local (codes "L") (codes "INTEGER") ∷ local (codes "C") (codes "ROW") ∷ [];
+  declarations = local 1 (codes "L") (codes "INTEGER") ∷ local 2 (codes "C") (codes "ROW") ∷ [];
   statements =
       MoreStmts branches (MoreStmts selection (MoreStmts repetition (MoreStmts counting (MoreStmts handling (single (Return 60 None))))));
   handlers = NoHandlers;
@@ -156,9 +156,9 @@ pub whole : run_code site body (record { place = 0; labels = [] }) ≡ record {
   code = instructions;
   rows = record { start = 75; end_ = 78; exception = 1; target = 78 } ∷ record { start = 75; end_ = 78; exception = 0; target = 82 } ∷ [];
   places =
-      stands 13 15 11 ∷ stands 20 22 12 ∷ stands 23 25 13 ∷ stands 9 25 10 ∷ stands 36 38 21 ∷ stands 40 43 22 ∷ stands 25 45 20 ∷ stands 47 51 31
-      ∷ stands 51 55 32 ∷ stands 45 56 30 ∷ stands 64 66 41 ∷ stands 56 75 40 ∷ stands 75 77 51 ∷ stands 79 81 52 ∷ stands 83 85 53 ∷ stands 75 86 50
-      ∷ stands 86 87 60 ∷ [];
+      stands 0 2 1 ∷ stands 2 7 2 ∷ stands 13 15 11 ∷ stands 20 22 12 ∷ stands 23 25 13 ∷ stands 9 25 10 ∷ stands 36 38 21 ∷ stands 40 43 22
+      ∷ stands 25 45 20 ∷ stands 47 51 31 ∷ stands 51 55 32 ∷ stands 45 56 30 ∷ stands 64 66 41 ∷ stands 56 75 40 ∷ stands 75 77 51 ∷ stands 79 81 52
+      ∷ stands 83 85 53 ∷ stands 75 86 50 ∷ stands 86 87 60 ∷ [];
   labels = codes "low" ∷ codes "middle" ∷ [];
   most = 6;
 }

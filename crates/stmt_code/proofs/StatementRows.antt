@@ -63,7 +63,8 @@ module _ (n : ℕ) where
   locals_rows c [] = rows_coded n nothing
   locals_rows c (LocalObject d ∷ ds) =
       rows_both n (local_code c (LocalObject d)) (locals_code (after_local c (LocalObject d)) ds)
-      (local_rows c.visible c.taken (subtype_of c.visible.scope d.subtype) d.value) (locals_rows (after_local c (LocalObject d)) ds)
+      (rows_marked n d.name.place (local_object c.visible c.taken (subtype_of c.visible.scope d.subtype) d.value)
+      (local_rows c.visible c.taken (subtype_of c.visible.scope d.subtype) d.value)) (locals_rows (after_local c (LocalObject d)) ds)
   locals_rows c (LocalTask d ∷ ds) = rows_both n (coded nothing) (locals_code c ds) (rows_coded n nothing) (locals_rows c ds)
   locals_rows c (LocalProtected d ∷ ds) = rows_both n (coded nothing) (locals_code c ds) (rows_coded n nothing) (locals_rows c ds)
 

@@ -26,7 +26,7 @@ use Rattle.part_code.proofs.Selecting.{selecting_width}
 use Rattle.stmt_code.specs.Alternatives.{AreAcceptedAlternatives}
 use Rattle.stmt_code.specs.Drafting.{CodePart}
 use Rattle.stmt_code.specs.Emitting.{AreAcceptedElsifs, AreAcceptedHandlers, AreAcceptedStatements, IsAcceptedStatement, IsLegalStatement}
-use Rattle.stmt_code.specs.Placing.{alternatives_within, elsifs_within, stmt_within, stmts_within}
+use Rattle.stmt_code.specs.Placing.{OfStatement, alternatives_within, elsifs_within, stmt_within, stmts_within}
 use Rattle.stmt_code.specs.StatementCode.{Site, after_local, after_locals, alternatives_code, elsifs_code, handlers_code, in_handler, in_turn, local_code, locals_code, stmt_code, stmts_code}
 use Rattle.stmt_code.proofs.AcceptedParts.{alternative_body, alternative_choices, elsif_body, elsif_condition, first_statement, handler_body, handler_choices, more_alternatives, more_elsifs, more_handlers, more_statements}
 use Rattle.stmt_code.proofs.Accepting.{all_numbered, raised_there}
@@ -201,7 +201,7 @@ module _ (laws : StatementLaws) (statics : StaticIsValue) where
         → Does (AreBody c body) c (stmts_within body) (stmts_code c body)
     stmts_do c NoStmts full h = does_nothing (AreBody c NoStmts) c (λ i program g numbers f r at. refl)
     stmts_do c (MoreStmts x rest) full h =
-        does_then (IsOne c x) (AreBody c rest) (AreBody c (MoreStmts x rest)) c (stmt_within x ++ x ∷ []) (stmts_within rest) _ (stmts_code c rest)
+        does_then (IsOne c x) (AreBody c rest) (AreBody c (MoreStmts x rest)) c (stmt_within x ++ OfStatement x ∷ []) (stmts_within rest) _ (stmts_code c rest)
         (λ i program g numbers f r from mid to up over first more. (mid, up, over, first, more))
         (does_marked c x (stmt_code c x) (stmt_does c x full (first_statement c.visible.scope c.ways x rest h)))
         (stmts_do c rest full (more_statements c.visible.scope c.ways x rest h))

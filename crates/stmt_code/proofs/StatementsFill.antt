@@ -397,8 +397,9 @@ module _ (laws : Laws) (simple : SimpleFillLaws) where
       let B = locals_needs (local_visible v taken (LocalObject d)) (taken + words) ds in
       let x = 20 * declaration_size (LocalObject d) + 2 * words in
       let y = declarations_bound next.visible.scope ds in
-      let own_fills = subst (λ m. Fills m x (λ l. l) (λ k. k) (local_object c.visible c.taken t d.value)) (object_alike c.visible slots taken t d.value)
-      (simple.object c taken d near.low full one) in
+      let a = local_object c.visible c.taken t d.value in
+      let own_fills = fills_marked A x (λ l. l) (λ k. k) d.name.place a
+      (subst (λ m. Fills m x (λ l. l) (λ k. k) a) (object_alike c.visible slots taken t d.value) (simple.object c taken d near.low full one)) in
       let rest = locals_fills next (next_slots c slots taken near full d one) (taken + words) ds (near_local c slots taken near full d one)
       (full_local c d full one) (back_empty (local_faults s (LocalObject d)) (locals_faults (local_scope s (LocalObject d)) ds) legal)
       (back_empty (restrictions.local_faults (LocalObject d)) (restrictions.locals_faults ds) allowed) in

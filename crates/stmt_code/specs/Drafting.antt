@@ -70,7 +70,7 @@ skipping more depth jump a s =
     let inner = a (record s { place = suc s.place }) in
     record inner { code = (record { depth = narrow depth; operation = jump (narrow (suc s.place + length inner.code + more)) }) ∷ inner.code }
 
--- a statement, and the row of its place
+-- a statement or a declaration, and the row of its place
 unfoldable pub marked : (place : ℕ) → CodePart → CodePart
 marked place a s =
     let inner = a s in
@@ -100,7 +100,7 @@ fragment_of m = record { before = m.before; code = m.made.code }
 abbrev pub with_fragment : Sketched → Made → Sketched
 with_fragment m f = record { before = f.before; made = record m.made { code = f.code } }
 
--- the row of a statement whose code begins at a place and ends here
+-- the row of a statement or a declaration whose code begins at a place and ends here
 abbrev pub marks : Sketched → (first place : ℕ) → Sketched
 marks m first place =
     record m { made = record m.made { places = m.made.places ++ (record { first = first; behind = end_of m; place = place }) ∷ [] } }

@@ -1,7 +1,7 @@
 -- What methods that add the code of statements promise.
 use Rattle.std.specs.List.{All}
 use Rattle.std.specs.Prelude.{◌≡◌, ◌≢◌, ℕ, ◌+◌, ◌≤◌, ◌<◌, Bool, true, List, [], ◌∷◌, ◌++◌, length, Option, Some, None, is_some, slice_get, ⊤}
-use Rattle.ada_tree.specs.StatementTree.{DeclarationTree, ElsifTrees, HandlerTrees, StmtTree, StmtTrees}
+use Rattle.ada_tree.specs.StatementTree.{DeclarationTree, ElsifTrees, HandlerTrees, LocalObject, StmtTree, StmtTrees}
 use Rattle.handlers.specs.Nesting.{all_nested}
 use Rattle.handlers.specs.declared.rows.Row.{Row}
 use Rattle.image.specs.Sections.{Sections}
@@ -34,13 +34,13 @@ use Rattle.part_code.specs.Resting.{Framed}
 use Rattle.part_code.specs.Handling.{GoesByRows, Handling, unhandled}
 use Rattle.part_code.specs.Raising.{AreNamed}
 use Rattle.part_code.specs.Rows.{LiesWithin}
-use Rattle.part_code.specs.Statements.{IsRun, IsStatement, Numbers, Ways}
+use Rattle.part_code.specs.Statements.{IsDeclared, IsRun, IsStatement, Numbers, Ways}
 use Rattle.stmt_code.specs.declared.draft.Draft.{Draft}
 use Rattle.stmt_code.specs.declared.tables.PlaceRow.{PlaceRow}
 use Rattle.stmt_code.specs.Leaves.{any_leave, elsifs_leave, handlers_leave, leaves}
 use Rattle.stmt_code.specs.declared.leaves.WayOut.{WayOut}
 use Rattle.stmt_code.specs.declared.leaves.WayOut.TheVariants as way
-use Rattle.stmt_code.specs.Placing.{AreInnermostFirst, StandsBetween, sequence_within, stmt_place}
+use Rattle.stmt_code.specs.Placing.{AreInnermostFirst, Construct, OfDeclaration, OfStatement, StandsBetween, body_within, construct_place}
 use Rattle.part_code.specs.Emitting.{IsReachable}
 
 -- ---- what is asked
@@ -124,21 +124,25 @@ pub record Allows (i : Sections) (s : Subprogram) (low high : ℕ) (w : Ways) : 
   pub return : (place : ℕ) → w.return ≡ Some place → IsReachable i low high place
   pub handled : (word : ℕ) → w.handled ≡ Some word → word < s.locals
 
--- ---- where the code of statements stands
+-- ---- where the code of statements and declarations stands
 
--- The row is that of the statement: its place, and the code between its places is that of the statement, where what is visible, the ways out and where
--- exceptions go on are as at some place of the program.
-pub record TellsPlace (i : Sections) (program : Program) (g : Package) (numbers : Numbers) (q : PlaceRow) (x : StmtTree) : Type 0 where
-  pub place : q.place ≡ stmt_place x
+-- The code between these places is that of the statement, with some ways out and wherever exceptions go on; or that of the declaration, after which other names
+-- are visible.
+abbrev pub IsConstruct : Sections → Program → Package → Numbers → Framed → (from to : ℕ) → Construct → Type 0
+IsConstruct i program g numbers f from to (OfStatement x) = (ways : Ways) × (handling : Handling) × IsStatement i program g numbers f ways handling from to x
+IsConstruct i program g numbers f from to (OfDeclaration d) = (later : Framed) × IsDeclared i program g numbers f from to later (LocalObject d)
+
+-- The row is that of the statement or the declaration: its place, and the code between its places is that of it, where what is visible in front of it is as at
+-- some place of the program.
+pub record TellsPlace (i : Sections) (program : Program) (g : Package) (numbers : Numbers) (q : PlaceRow) (x : Construct) : Type 0 where
+  pub place : q.place ≡ construct_place x
   pub frame : Framed
   pub taken : ℕ
   pub serves : Serves program g numbers frame taken
-  pub ways : Ways
-  pub handling : Handling
-  pub code : IsStatement i program g numbers frame ways handling q.first q.behind x
+  pub code : IsConstruct i program g numbers frame q.first q.behind x
 
--- as many rows as statements, in the same order, each that of its statement
-abbrev pub TellPlaces : Sections → Program → Package → Numbers → List PlaceRow → List StmtTree → Type 0
+-- as many rows as statements and declarations, in the same order, each that of its own
+abbrev pub TellPlaces : Sections → Program → Package → Numbers → List PlaceRow → List Construct → Type 0
 TellPlaces i program g numbers [] [] = ⊤
 TellPlaces i program g numbers (q ∷ rows) (x ∷ xs) = TellsPlace i program g numbers q x × TellPlaces i program g numbers rows xs
 TellPlaces i program g numbers rows xs = ⊥
@@ -180,8 +184,9 @@ Meant = Sections → Program → Package → Numbers → Framed → Handling →
 
 -- The code that was added is what is meant, in every image that holds it and has the labels, whatever the rows of handlers around it answer, and in every frame
 -- with as many words; it has at most so many instructions; and it keeps the rules of images wherever what is behind it and the ways out are reached with an
--- empty operand stack. The words that it takes for names of its own are given back. The rows of places that were added tell of these statements.
-pub record Emits (Is : Meant) (v : Visible) (w : Ways) (old : Draft) (size : ℕ) (within : List StmtTree) (new : Draft) : Type 0 where
+-- empty operand stack. The words that it takes for names of its own are given back. The rows of places that were added tell of these statements and
+-- declarations.
+pub record Emits (Is : Meant) (v : Visible) (w : Ways) (old : Draft) (size : ℕ) (within : List Construct) (new : Draft) : Type 0 where
   pub extends : Extends old.code new.code
   pub labels : StandsFrom 0 old.labels new.labels
   pub taken : new.words.taken ≡ old.words.taken
@@ -227,4 +232,4 @@ no_ways = record { exit = None; return = None; handled = None }
 abbrev pub EmitsRun : Visible → Draft → List DeclarationTree → StmtTrees → HandlerTrees → Draft → Type 0
 EmitsRun v old ds body all new =
     Emits (λ i program g numbers f handling from to. handling ≡ unhandled → IsRun i program g numbers f from to ds body all) v no_ways old
-    (run_bound v.scope ds body all) (sequence_within body all) new
+    (run_bound v.scope ds body all) (body_within ds body all) new

@@ -49,8 +49,9 @@ abbrev pub local_object : Visible → (taken : ℕ) → Option Subtype → Optio
 local_object v taken None value = coded nothing
 local_object v taken (Some t) value = takes (taken + words_in v.scope t) ▹ coded (object_code v (narrow taken) t value)
 
+-- that of an object with the row of its place
 abbrev pub local_code : Site → DeclarationTree → CodePart
-local_code c (LocalObject d) = local_object c.visible c.taken (subtype_of c.visible.scope d.subtype) d.value
+local_code c (LocalObject d) = marked d.name.place (local_object c.visible c.taken (subtype_of c.visible.scope d.subtype) d.value)
 local_code c d = coded nothing
 
 abbrev pub words_taken : Scope → Option Subtype → ℕ

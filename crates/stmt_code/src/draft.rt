@@ -77,7 +77,7 @@ pub struct Draft {
     pub code: Code,
     pub labels: Labels,
     pub words: FrameWords,
-    /// The rows of handlers in the code, and those of the places of its statements.
+    /// The rows of handlers in the code, and those of the places of its statements and declarations.
     pub rows: CodeTables,
     /// The names of the program's exceptions, by their numbers from 1.
     pub exceptions: Vec<Text>,

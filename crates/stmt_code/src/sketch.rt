@@ -1,17 +1,14 @@
 //! What statements make as it is put together, before limits of images are tested where it is added to the code of a program (docs/CODEGEN.md).
 ghost use Rattle.std.specs.Prelude.{◌≡◌, ◌++◌, ◌∷◌, [], length, IfOk, OnOk};
 ghost use Rattle.ada_tree.specs.ExpressionTree.{expr_tree};
-ghost use Rattle.ada_tree.specs.StatementTree.{stmt_tree};
 ghost use Rattle.expr_code.specs.ExpressionCode.{expr_code};
 ghost use Rattle.expr_code.specs.Pieces.{narrow, one};
 ghost use Rattle.image.specs.declared.instruction.Operation.TheVariants as op;
 ghost use Rattle.stmt_code.specs.Drafting.{Sketched, adds, all_led, coded, end_of, handles, led, marks};
-ghost use Rattle.stmt_code.specs.Placing.{stmt_place};
 
 use crate::draft::Labels;
-use crate::marking::stmt_place;
 use crate::tables::PlaceRow;
-use ada_tree::{Expr, Stmt};
+use ada_tree::Expr;
 use expr_code::Visible;
 use expr_code::fragment::Fragment;
 use handlers::Row;
@@ -19,8 +16,8 @@ use image::Operation;
 use std::alloc::AllocError;
 use std::marker::Model;
 
-/// Instructions with the rows of their handlers and of the places of their statements, the labels of all lines up to them, and the most words of the frame that
-/// are taken at once.
+/// Instructions with the rows of their handlers and of the places of their statements and declarations, the labels of all lines up to them, and the most words
+/// of the frame that are taken at once.
 #[derive(Drop)]
 pub struct Sketch {
     pub fragment: Fragment,
@@ -157,12 +154,11 @@ impl Sketch {
         Ok(())
     }
 
-    /// Adds the row of a statement whose code begins at `first` and ends here.
-    pub fn mark(&mut self, first: usize, statement: &Stmt) -> Result<(), AllocError>
-        ensures made { OnOk result (self.new ≡ marks self.old first (stmt_place (stmt_tree statement.now))) }
+    /// Adds the row of a statement or a declaration at this place of the source, whose code begins at `first` and ends here.
+    pub fn mark(&mut self, first: usize, place: u32) -> Result<(), AllocError>
+        ensures made { OnOk result (self.new ≡ marks self.old first place) }
     {
         let behind = self.place()?;
-        let place = stmt_place(statement);
         self.places.push(PlaceRow {
             first,
             behind,

@@ -1,10 +1,13 @@
 //! Declarations of objects and parameters of loops, as they are added to what is put together (RM 3.3.1, 5.5).
-ghost use Rattle.std.specs.Prelude.{◌≡◌, ◌∷◌, [], map, IfOk, OnOk};
+ghost use Rattle.std.specs.Prelude.{◌≡◌, ◌+◌, ◌∷◌, [], map, IfOk, OnOk};
 ghost use Rattle.ada_tree.specs.StatementTree.{declaration_tree, LocalObject, object_tree, range_tree};
 ghost use Rattle.declaration_rules.specs.BodyNames.{loop_scope};
 ghost use Rattle.declaration_rules.specs.LocalRules.{local_scope};
 ghost use Rattle.part_code.specs.Needs.{with_object};
 ghost use Rattle.stmt_code.specs.Declaring.{AddsLocals};
+ghost use Rattle.stmt_code.specs.Drafting.{adds};
+ghost use Rattle.stmt_code.specs.StatementCode.{local_object, words_taken};
+ghost use Rattle.type_rules.specs.SubtypeNames.{subtype_of};
 
 use crate::selection::narrow;
 use crate::sketch::Sketch;
@@ -93,7 +96,7 @@ impl Sketch {
         }
     }
 
-    // Adds the code of the declaration of an object.
+    // Adds the code of the declaration of an object with the row of its place, and makes its name visible.
     fn declare(
         &mut self,
         visible: &mut Visible,
@@ -102,17 +105,31 @@ impl Sketch {
     ) -> Result<usize, AllocError>
         ensures declares { IfOk result (λ more. AddsLocals visible.old taken self.old (LocalObject (object_tree object.now) ∷ []) visible.new more self.new) }
     {
+        let first = self.place()?;
+        let more = self.local_object(visible, taken, object)?;
+        self.mark(first, object.name.place)?;
+        show_object(visible, object, narrow(taken))?;
+        Ok(more)
+    }
+
+    // Adds the code of an object, whose words come after those that are taken; returns how many are taken then.
+    fn local_object(
+        &mut self,
+        visible: &Visible,
+        taken: usize,
+        object: &ObjectDeclaration,
+    ) -> Result<usize, AllocError>
+        ensures made { let d = object_tree object.now in OnOk result (self.new ≡ adds self.old (local_object visible.now taken
+            (subtype_of visible.now.scope d.subtype) d.value)) }
+        ensures more { IfOk result (λ more. more ≡ taken + words_taken visible.now.scope (subtype_of visible.now.scope (object_tree object.now).subtype)) }
+    {
         match subtype_of(&visible.scope, &object.subtype) {
             Some(subtype) => {
                 let more = raised(taken, visible.scope.words(subtype))?;
                 self.object(visible, taken, subtype, &object.value)?;
-                show_object(visible, object, narrow(taken))?;
                 Ok(more)
             }
-            None => {
-                show_object(visible, object, narrow(taken))?;
-                Ok(taken)
-            }
+            None => Ok(taken),
         }
     }
 }

@@ -6,6 +6,7 @@ ghost use Rattle.stmt_code.specs.Drafting.{adds, OpensParts, ◌▹◌};
 ghost use Rattle.stmt_code.specs.StatementCode.{after_locals, elsifs_code, fork_code, guarded_code, locals_code, site, stmt_code, stmts_code};
 ghost use Rattle.stmt_code.specs.Timely.{elsifs_timely, locals_seen, stmt_timely, stmts_timely};
 
+use crate::marking::stmt_place;
 use crate::sketch::Sketch;
 use ada_tree::laws::statements_by_parts;
 use ada_tree::{Declaration, ElsifPart, Expr, Stmt};
@@ -110,7 +111,7 @@ impl Sketch {
         for statement in all {
             let first = self.place()?;
             self.statement(visible, leaving, taken, exceptions, statement)?;
-            self.mark(first, statement)?;
+            self.mark(first, stmt_place(statement))?;
         }
         Ok(())
     }

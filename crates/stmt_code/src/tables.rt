@@ -1,4 +1,4 @@
-//! The tables that go with code: its rows of handlers, and where the code of its statements is.
+//! The tables that go with code: its rows of handlers, and where the code of its statements and declarations is.
 ghost use Rattle.std.specs.Prelude.{◌≡◌, ◌∷◌, ◌++◌, [], length, IfErr, OnOk};
 ghost use Rattle.expr_code.specs.Refusing.{IsRefused};
 
@@ -8,7 +8,7 @@ use part_code::add_rows;
 use std::alloc::Global;
 use std::marker::Model;
 
-/// Where the code of a statement is: the place of its first instruction, the one after its last, and the statement's place in the source.
+/// Where the code of a statement or a declaration is: the place of its first instruction, the one after its last, and its own place in the source.
 #[derive(Clone, Copy, PartialEq, Eq, Debug)]
 pub struct PlaceRow {
     pub first: usize,
@@ -16,7 +16,8 @@ pub struct PlaceRow {
     pub place: u32,
 }
 
-/// The rows of handlers in code, inner ones first (docs/FORMATS.md), and those of the places of its statements, inner ones first. Contracts see two lists.
+/// The rows of handlers in code, inner ones first (docs/FORMATS.md), and those of the places of its statements and declarations, inner ones first. Contracts
+/// see two lists.
 #[derive(Drop)]
 pub struct CodeTables {
     handlers: Vec<Row>,
@@ -50,7 +51,7 @@ impl CodeTables {
         add_rows(&mut self.handlers, more)
     }
 
-    /// Adds the place of a statement after the others.
+    /// Adds the place of a statement or a declaration after the others.
     pub fn mark(&mut self, row: PlaceRow) -> Result<(), Refusal>
         ensures rows { OnOk result (self.new ≡ record self.old { places = self.old.places ++ row ∷ [] }) }
         ensures refused { IfErr result (λ why. IsRefused 0 0 why) }

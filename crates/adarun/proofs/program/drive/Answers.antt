@@ -1,7 +1,7 @@
 use Rattle.std.proofs.Common.{◌≡◌, None, Some, inl, inr, of_z, refl, rules, subst, to_z, w64}
 use Rattle.std.specs.Prelude.{option_map}
-use Rattle.command_line.specs.Words.{CheckText, CompileText, ExplainFault, ExplainText, FormatText, GoText, ListImage, Nothing, RunImage, SearchText, ShowManual, ShowVersion, SimulateText, TraceText, wanted_of}
-use Rattle.adarun.specs.Driving.{LeavesSearch, LeavesTrace, LeavesUntil, input_of}
+use Rattle.command_line.specs.Words.{CheckText, CompileText, ExplainFault, ExplainText, FormatText, GoText, ListImage, MeasureSet, Nothing, RunImage, SearchText, ShowManual, ShowVersion, SimulateText, TraceText, wanted_of}
+use Rattle.adarun.specs.Driving.{LeavesMeasures, LeavesSearch, LeavesTrace, LeavesUntil, input_of}
 use Rattle.adarun.specs.Reading.{with_input}
 use Rattle.adarun.specs.declared.program.Status.TheVariants.{Failed, NoMemory}
 use Rattle.adarun.proofs.Driving.{asked_as, asked_nothing, failed, numbered_as}
@@ -110,6 +110,24 @@ returns-in-Ok-Format-clause-answers g c = record {
   leaves = (λ name. refl, c.drive_format-status.ensures.leaves);
   reports = tt;
 }
+
+pub returns-in-Ok-MeasureSet-clause-answers : goal.returns-in-Ok-MeasureSet-clause-answers
+returns-in-Ok-MeasureSet-clause-answers g c =
+    let until = c.in-Ok-MeasureSet.until in
+    let u : to_z w64 (of_z w64 until) ≡ until = search rules in
+    let leaves =
+    subst
+    (λ z. LeavesMeasures c.in-Ok-MeasureSet.is_fields (g.F.FileStore.contents c.args.files.now) c.in-Ok-MeasureSet.source.now c.in-Ok-MeasureSet.choices.now z
+    c.in-Ok-MeasureSet.limit c.drive_measures-status.result (g.O.Sink.bytes c.args.out.now) (g.O.Sink.bytes c.drive_measures-status.new.out))
+    u c.drive_measures-status.ensures.leaves in
+    record {
+      work = MeasureSet c.in-Ok-MeasureSet.source.now c.in-Ok-MeasureSet.choices.now until c.in-Ok-MeasureSet.limit c.in-Ok-MeasureSet.is_fields;
+      status = c.drive_measures-status.result;
+      answer_is = search rules;
+      asked_for = λ plain. inl (asked_as _ _ _ c.in-Ok-MeasureSet.field-0-is (c.in-Ok-MeasureSet.ensures plain));
+      leaves = (λ name. refl, leaves);
+      reports = tt;
+    }
 
 pub returns-in-Ok-Search-clause-answers : goal.returns-in-Ok-Search-clause-answers
 returns-in-Ok-Search-clause-answers g c =

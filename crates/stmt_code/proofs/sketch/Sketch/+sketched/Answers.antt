@@ -36,10 +36,11 @@ statements-loop-statement-preserved t c =
     let x = c.statement-item.result in
     let there = c.loop-statement.invariant.1 in
     let code = c.in_ok-statement.ensures.made
-    ∙ ap (λ v. adds c.loop-statement.self (stmt_code (site v c.args.leaving c.args.taken c.args.exceptions.now) (stmt_tree x))) there in (
+    ∙ ap (λ v. adds c.loop-statement.self (stmt_code (site v c.args.leaving c.args.taken c.args.exceptions.now) (stmt_tree x))) there in
+    let marked_there = c.in_ok-mark.ensures.made ∙ ap (marks c.statement.new.self c.in_ok-first.first) c.stmt_place.ensures
+    ∙ ap (λ y. marks y c.in_ok-first.first (stmt_place (stmt_tree x))) code in (
       statements_step s c.loop-statement.self c.mark.new.self _ c.args.all.now _ x c.in_ok-first.first c.loop-statement-test.true c.statement-item.is
-          c.in_ok-first.ensures.place (c.in_ok-mark.ensures.made ∙ ap (λ y. marks y c.in_ok-first.first (stmt_place (stmt_tree x))) code)
-          c.loop-statement.invariant.0,
+          c.in_ok-first.ensures.place marked_there c.loop-statement.invariant.0,
       c.in_ok-statement.ensures.same ∙ there,
       statements_on s.visible.scope _ c.args.all.now _ x c.loop-statement-test.true c.statement-item.is
           (subst (λ v. stmt_timely v.scope (stmt_tree x)) there c.in_ok-statement.ensures.timely) c.loop-statement.invariant.2,

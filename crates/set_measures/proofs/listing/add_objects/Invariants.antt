@@ -1,0 +1,8 @@
+use Rattle.std.proofs.Common.{◌≡◌, ◌++◌}
+use Rattle.set_measures.specs.Choices.{each_below}
+use Rattle.set_measures.specs.Quantities.{of_object}
+use Rattle.set_measures.proofs.listing.add_objects.Given as goal
+
+abbrev pub invariant-loop-object : goal.invariant-loop-object
+invariant-loop-object l =
+    l.list.items ≡ l.fn.list.items ++ each_below l.object of_object
