@@ -132,7 +132,13 @@ def signals_of(world):
     for own, components in objects:
         signals += [(("run", own, "inside"), 8, "wire"), (("run", own, "queued"), 8, "wire")]
         signals += [(("run", own, name), 64, "integer") for name, _ in components]
+    signals += [(("run", "inputs", f"CHANNEL_{channel}"), 64, "integer") for channel in channels_of(world)]
     return signals
+
+
+def channels_of(world):
+    """The channels that have a line in the schedule, in their order."""
+    return sorted({channel for _, channel, _ in world.schedule})
 
 
 def code_of(signal):
@@ -157,7 +163,7 @@ def values_of(world):
         need(len(inside[o]) <= 1, f"tasks {inside[o]} are inside object {o}")
         values += [min(*inside[o], len(world.tasks)) + 1 if inside[o] else 0, 0 if queued is None else queued + 1]
         values += [world.words[o][word] % WIDE for _, word in objects[o][1]]
-    return values
+    return values + world.inputs_now()
 
 
 class Watched(World):
@@ -165,13 +171,19 @@ class Watched(World):
     due sleep still. Words are then those that the step has left which lets the clock move."""
 
     def __init__(self, scopes, *given):
-        self.scopes, self.time, self.instants, self.seen = scopes, None, [], []
+        self.scopes, self.time, self.instants, self.seen, self.read = scopes, None, [], [], (None, [])
         super().__init__(*given)
         self.seen.append(values_of(self))
 
     def step(self):
         super().step()
         self.seen.append(values_of(self))
+
+    def inputs_now(self):
+        """The values of the channels that have a line, which are read once for each time."""
+        if self.read[0] != self.time:
+            self.read = (self.time, [self.input(channel) % WIDE for channel in channels_of(self)])
+        return self.read[1]
 
     @property
     def now(self):

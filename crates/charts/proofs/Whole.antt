@@ -11,7 +11,6 @@ use Rattle.machine.specs.Stands.{EndsBy}
 use Rattle.machine.specs.Written.{AppendsBeginning}
 use Rattle.machine.specs.declared.bound.Bound.{Bound}
 use Rattle.machine.specs.declared.reports.Outcome.{Outcome}
-use Rattle.machine.proofs.Runs.{appends_nothing, beginning_of_more, whole_beginning}
 use Rattle.charts.specs.Runs.{cells_after}
 use Rattle.charts.specs.Scales.{least_scale, scale_of}
 use Rattle.charts.specs.Signs.{Cells}
@@ -19,10 +18,6 @@ use Rattle.charts.specs.Tables.{HoldsCells}
 use Rattle.charts.specs.Text.{chart_text, run_text}
 use Rattle.charts.specs.declared.cell.Cell.{Cell}
 use Rattle.charts.specs.declared.scale.TheConstants.{SCALES}
-
--- nothing is a beginning of each text
-pub nothing_written : (a : Option (List ℕ)) (text : List ℕ) → AppendsBeginning a a text
-nothing_written a text = beginning_of_more a a [] text (whole_beginning a a [] (appends_nothing a))
 
 module _ (i : Sections) (names : List (List ℕ)) (schedule : List ScheduleLine) (bound : Bound) (held : Sections) (given : List ScheduleLine) (same : held ≡ i) (there : given ≡ schedule) where
   here : (P : Sections → List ScheduleLine → Type 0) → P held given → P i schedule

@@ -161,7 +161,7 @@ impl Choice {
             }
             at += 1;
         }
-        Ok(Schedule::of_lines(lines))
+        Schedule::of_lines(alloc, lines)
     }
 }
 

@@ -7,3 +7,4 @@ mod Passing
 mod Waking
 mod Asleep
 mod HeapExamples
+mod ChannelValues

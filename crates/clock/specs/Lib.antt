@@ -4,3 +4,4 @@ pub mod Capped
 pub mod Sleepers
 pub mod Numbering
 pub mod Heaps
+pub mod ChannelValues

@@ -1,6 +1,7 @@
 //! Virtual time: sleeping tasks, and schedules of input values.
 #![tactic(auto)]
 
+mod channel_values;
 mod delays;
 mod faults;
 mod heap;

@@ -4,12 +4,13 @@ ghost use Rattle.base.specs.Schedule.{input, is_schedule};
 ghost use Rattle.clock.specs.Capped.{IsNext};
 ghost use Rattle.clock.specs.Schedules.{IsScheduleText, RefusesSchedule, heard_line, next_fault};
 
+use crate::channel_values::{Values, value_after, values_after};
 use crate::faults::{TIME_GOES_BACK, TOO_MANY_LINES, UNKNOWN_CHANNEL};
 use crate::reading::front_line;
+use base::ScheduleLine;
 use base::faults::{MEMORY_REFUSED, WRONG_SCHEDULE_LINE};
 use base::limits::SCHEDULE_LINES;
-use base::{ScheduleLine, input_of};
-use std::alloc::{AllocFailed, Global};
+use std::alloc::{AllocError, AllocFailed, Global};
 use std::marker::Model;
 use thiserror::Error;
 
@@ -35,22 +36,38 @@ impl From<AllocFailed<ScheduleLine>> for ScheduleFault {
     }
 }
 
+impl From<AllocError> for ScheduleFault {
+    ghost use Rattle.clock.specs.Schedules.{memory_fault};
+
+    ghost from_gives = { λ _ fault. fault ≡ memory_fault };
+
+    fn from(_refused: AllocError) -> ScheduleFault {
+        ScheduleFault {
+            number: MEMORY_REFUSED,
+            line: 0,
+        }
+    }
+}
+
 /// A schedule of input values: at most 4,096 lines in the order of their times. Contracts see the lines.
 #[derive(Drop)]
 pub struct Schedule {
     lines: Vec<ScheduleLine>,
+    // those of the channels after each line
+    values: Vec<Values>,
 }
 
 impl Model for Schedule {
-    ghost use Rattle.std.specs.Prelude.{List, IsTrue};
+    ghost use Rattle.std.specs.Prelude.{◌≡◌, List, IsTrue};
     ghost use Rattle.base.specs.Schedule.{is_schedule};
     ghost use Rattle.base.specs.declared.schedule.ScheduleLine.{ScheduleLine as Line};
+    ghost use Rattle.clock.specs.ChannelValues.{no_values, values_from};
 
     ghost Value = { List Line };
 
     ghost view = { λ s. s.lines.items };
 
-    ghost invariant = { λ s. IsTrue (is_schedule s.lines.items) };
+    ghost invariant = { λ s. IsTrue (is_schedule s.lines.items) × (s.values.items ≡ values_from no_values s.lines.items) };
 }
 
 impl Schedule {
@@ -73,15 +90,19 @@ impl Schedule {
             last = line.time;
             rest = behind;
         }
-        Ok(Schedule { lines })
+        Ok(Schedule::of_lines(alloc, lines)?)
     }
 
     /// The schedule of these lines.
-    pub fn of_lines(lines: Vec<ScheduleLine>) -> Schedule
+    ///
+    /// # Errors
+    /// Where memory was refused.
+    pub fn of_lines(alloc: Global, lines: Vec<ScheduleLine>) -> Result<Schedule, AllocError>
         requires { IsTrue (is_schedule lines.items) }
-        ensures { result ≡ lines.items }
+        ensures { IfOk result (λ schedule. schedule ≡ lines.items) }
     {
-        Schedule { lines }
+        let values = values_after(alloc, &lines)?;
+        Ok(Schedule { lines, values })
     }
 
     /// The lines, in the order of their times.
@@ -104,7 +125,8 @@ impl Schedule {
     pub fn value(&self, channel: u8, now: i64) -> i64
         ensures { result ≡ input self.now channel now }
     {
-        input_of(&self.lines, channel, now)
+        let passed = self.lines.partition_point(|line| line.time <= now);
+        value_after(&self.values, passed, channel)
     }
 }
 

@@ -52,6 +52,10 @@ beginning_after a b c xs ys p q = (
 pub whole_beginning : (a b : Option (List ℕ)) (xs : List ℕ) → Appends a b xs → AppendsBeginning a b xs
 whole_beginning a b xs p = (length xs, omega arith, subst (Appends a b) (sym (take-length xs)) p)
 
+-- nothing is a beginning of each text
+pub nothing_written : (a : Option (List ℕ)) (text : List ℕ) → AppendsBeginning a a text
+nothing_written a text = beginning_of_more a a [] text (whole_beginning a a [] (appends_nothing a))
+
 -- the text of lines, one more
 pub lines_text-append : (names : Names) (xs ys : List kernel.Line) → lines_text names (xs ++ ys) ≡ lines_text names xs ++ lines_text names ys
 lines_text-append names [] ys = refl

@@ -12,17 +12,12 @@ use Rattle.machine.specs.Written.{AppendsBeginning}
 use Rattle.machine.specs.Taken.{steps_taken}
 use Rattle.machine.specs.declared.bound.Bound.{Bound}
 use Rattle.machine.specs.declared.reports.Outcome.{Outcome}
-use Rattle.machine.proofs.Runs.{appends_nothing, beginning_of_more, whole_beginning}
 use Rattle.tracing.specs.Traces.{rows}
 use Rattle.pictures.specs.Frames.{frame_of}
 use Rattle.pictures.specs.Front.{end_text, front_text}
 use Rattle.pictures.specs.Pictures.{frame, picture_text}
 use Rattle.pictures.specs.Text.{picture_names, rows_text}
 use Rattle.pictures.specs.declared.frame.Frame.{Frame}
-
--- nothing is a beginning of each text
-pub nothing_written : (a : Option (List ℕ)) (text : List ℕ) → AppendsBeginning a a text
-nothing_written a text = beginning_of_more a a [] text (whole_beginning a a [] (appends_nothing a))
 
 module _ (i : Sections) (names : List (List ℕ)) (schedule : List ScheduleLine) (bound : Bound) where
   -- the frame, by what the code asks for

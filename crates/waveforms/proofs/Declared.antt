@@ -1,9 +1,9 @@
--- Declarations of variables and scopes, added one after the other.
+-- Declarations of variables, channels and scopes, added one after the other.
 use Rattle.std.proofs.Common.{◌≡◌, ◌<◌, ℕ, suc, ◌+◌, List, ◌∷◌, ◌++◌, codes, drop, length, sym, ap, ◌∙◌, arith, append_assoc}
 use Rattle.std.specs.Prelude.{get_or}
 use Rattle.std.proofs.lemmas.List.{drop_more}
 use Rattle.waveforms.specs.Scopes.{Variable}
-use Rattle.waveforms.specs.Waves.{scope_text, variable_text, variables_text}
+use Rattle.waveforms.specs.Waves.{channel_text, channels_text, scope_text, variable_text, variables_text}
 use Rattle.waveforms.proofs.Added.{both_added}
 
 -- where the declarations of the variables that are left are still to come, and the next one is added
@@ -16,6 +16,20 @@ variables_next old text new first s t all i v less is so_far added t_is =
       (λ j. added j ++ variables_text (more j) (drop (i + 1) all))
           ∙ append_assoc text (variable_text s v) (variables_text (suc s) (drop (i + 1) all))
           ∙ ap (λ l. text ++ variables_text s l) (sym here)
+          ∙ so_far.0,
+      t_is ∙ ap (λ n. n + 1) so_far.1 ∙ omega arith,
+    )
+
+-- the same of channels
+pub channels_next : (old text new : List ℕ) (first s t : ℕ) (all : List ℕ) (i : ℕ) (c : ℕ) → i < length all → c ≡ get_or all i 0
+    → (text ++ channels_text s (drop i all) ≡ old ++ channels_text first all) × (s ≡ first + i) → new ≡ text ++ channel_text s c → t ≡ s + 1
+    → (new ++ channels_text t (drop (i + 1) all) ≡ old ++ channels_text first all) × (t ≡ first + (i + 1))
+channels_next old text new first s t all i c less is so_far added t_is =
+    let here : drop i all ≡ c ∷ drop (i + 1) all = drop_more all i 0 less ∙ ap (λ x. x ∷ drop (i + 1) all) (sym is) in
+    let more : t ≡ suc s = t_is ∙ omega arith in (
+      (λ j. added j ++ channels_text (more j) (drop (i + 1) all))
+          ∙ append_assoc text (channel_text s c) (channels_text (suc s) (drop (i + 1) all))
+          ∙ ap (λ l. text ++ channels_text s l) (sym here)
           ∙ so_far.0,
       t_is ∙ ap (λ n. n + 1) so_far.1 ∙ omega arith,
     )

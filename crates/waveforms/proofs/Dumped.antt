@@ -24,7 +24,7 @@ use Rattle.waveforms.proofs.Standing.{StepsBy, ends_here, stands_on}
 
 module _ (scopes : Scopes) (i : Sections) (schedule : List ScheduleLine) where
   abbrev values_at : ℕ → List ℕ
-  values_at n = values scopes (code i schedule n)
+  values_at n = values scopes schedule (code i schedule n)
 
   -- the texts of some steps begin those of more
   steps_grow : (n j : ℕ) → (more : List ℕ) × (steps_text i scopes schedule (n + j) ≡ steps_text i scopes schedule n ++ more)
@@ -46,8 +46,8 @@ module _ (scopes : Scopes) (i : Sections) (schedule : List ScheduleLine) where
         let e : n + suc j ≡ suc (n + j) = omega arith in
         let later : code i schedule (suc (n + j)) ≡ code i schedule n = ap (code i schedule) (sym e) ∙ same_world (suc j) in
         let last : step_text (suc (n + j)) (values_at (n + j)) (values_at (suc (n + j))) ≡ [] =
-        ap (λ (w : CodeWorld). step_text (suc (n + j)) (values scopes w) (values_at (suc (n + j)))) (same_world j)
-        ∙ ap (λ (w : CodeWorld). step_text (suc (n + j)) (values_at n) (values scopes w)) later
+        ap (λ (w : CodeWorld). step_text (suc (n + j)) (values scopes schedule w) (values_at (suc (n + j)))) (same_world j)
+        ∙ ap (λ (w : CodeWorld). step_text (suc (n + j)) (values_at n) (values scopes schedule w)) later
         ∙ step_without (suc (n + j)) (values_at n) in
         ap (steps_text i scopes schedule) e ∙ ap (λ v. steps_text i scopes schedule (n + j) ++ v) last ∙ append-nil (steps_text i scopes schedule (n + j)) ∙ steps_stay j
 
@@ -56,18 +56,18 @@ pub record Dumped (scopes : Scopes) (i : Sections) (schedule : List ScheduleLine
   pub image : h.image ≡ i
   pub schedule_is : h.schedule ≡ schedule
   pub stands : HoldsWorld h (code i schedule n)
-  pub values_are : dumped ≡ values scopes (world_of h)
+  pub values_are : dumped ≡ values scopes schedule (world_of h)
   pub taken : steps_taken i schedule n ≡ n
   pub written : Appends old new (steps_text i scopes schedule n)
   pub kept : after ≡ before
 
-pub dumped_nothing : (scopes : Scopes) (h : HeldWorld) (dumped : List ℕ) (old : Option (List ℕ)) (before : ℕ) → HoldsWorld h (code h.image h.schedule 0) → dumped ≡ values scopes (world_of h) →
+pub dumped_nothing : (scopes : Scopes) (h : HeldWorld) (dumped : List ℕ) (old : Option (List ℕ)) (before : ℕ) → HoldsWorld h (code h.image h.schedule 0) → dumped ≡ values scopes h.schedule (world_of h) →
     Dumped scopes h.image h.schedule 0 h dumped old old before before
 dumped_nothing scopes h dumped old before stands are =
     record { image = refl; schedule_is = refl; stands = stands; values_are = are; taken = refl; written = appends_nothing old; kept = refl }
 
 module _ (scopes : Scopes) (i : Sections) (schedule : List ScheduleLine) (n : ℕ) (h : HeldWorld) (dumped : List ℕ) (old new : Option (List ℕ)) (before after : ℕ) (r : Dumped scopes i schedule n h dumped old new before after) where
-  module _ (next : HeldWorld) (shown : Event) (steps : StepsBy h next shown) (going : (kernel_of h.tasking).outcome ≡ None) (later_dumped : List ℕ) (are : later_dumped ≡ values scopes (world_of next)) (later : Option (List ℕ)) where
+  module _ (next : HeldWorld) (shown : Event) (steps : StepsBy h next shown) (going : (kernel_of h.tasking).outcome ≡ None) (later_dumped : List ℕ) (are : later_dumped ≡ values scopes schedule (world_of next)) (later : Option (List ℕ)) where
     abbrev text : ℕ → List ℕ
     text m = step_text m dumped later_dumped
 
@@ -76,8 +76,8 @@ module _ (scopes : Scopes) (i : Sections) (schedule : List ScheduleLine) (n : �
 
     steps_more : steps_text i scopes schedule (suc n) ≡ steps_text i scopes schedule n ++ text (suc n)
     steps_more =
-        let first : values scopes (code i schedule n) ≡ dumped = values_held scopes h (code i schedule n) r.stands ∙ sym r.values_are in
-        let second : values scopes (code i schedule (suc n)) ≡ later_dumped = values_held scopes next (code i schedule (suc n)) stepped ∙ sym are in
+        let first : values scopes schedule (code i schedule n) ≡ dumped = values_held scopes schedule h (code i schedule n) r.stands ∙ sym r.values_are in
+        let second : values scopes schedule (code i schedule (suc n)) ≡ later_dumped = values_held scopes schedule next (code i schedule (suc n)) stepped ∙ sym are in
         λ j. steps_text i scopes schedule n ++ step_text (suc n) (first j) (second j)
 
     pub dumped_on : next.image ≡ h.image → next.schedule ≡ h.schedule → (count : ℕ) → Appends new later (text (n + 1)) → count ≡ after → Dumped scopes i schedule (n + 1) next later_dumped old later before count

@@ -1,9 +1,10 @@
--- Dumps of images worked by computation: an entry with queue, service and a preemption; a delay and an exception that ends the run; variables.
-use Rattle.std.proofs.Common.{◌≡◌, ℕ, List, [], ◌∷◌, ◌++◌, map, pos, negsuc, None, Some, arith, refl}
+-- Dumps of images worked by computation: an entry with queue, service and a preemption; a delay and an exception that ends the run; variables; inputs.
+use Rattle.std.proofs.Common.{◌≡◌, ℕ, List, [], ◌∷◌, ◌++◌, map, pos, negsuc, ℤ, None, Some, arith, refl}
 use Rattle.std.specs.Prelude.{◌<ℤ◌, codes}
 use Rattle.std.proofs.lemmas.Int.{ints}
 use Rattle.std.specs.Fmt.{digits}
 use Rattle.base.specs.Names.{predefined}
+use Rattle.base.specs.declared.schedule.ScheduleLine.{ScheduleLine}
 use Rattle.image.specs.ObjectTable.{ObjectRow}
 use Rattle.image.specs.Sections.{Sections}
 use Rattle.image.specs.declared.instruction.Instr.{Instr}
@@ -119,7 +120,7 @@ alone_timed = refl
 -- Over virtual time: it sleeps from 0 to 500, and is left there by the exception, or runs where the limit cuts it
 
 alone_in_time : time_waves_text alone none [] (at_most 100)
-    ≡ declarations_text axes.Time none alone
+    ≡ declarations_text axes.Time none [] alone
     ++ codes "#0\n$dumpvars\nb0 !\nb10 \"\nb101 #\nb0 $\nb0 %\n$end\n"
     ++ codes "#500\nb111110100 !\nb110 \"\n"
     ++ codes "$comment unhandled CONSTRAINT_ERROR in MAIN at 500\n$end\n"
@@ -127,7 +128,7 @@ unfolding digits
 alone_in_time = refl
 
 alone_cut_in_time : time_waves_text alone none [] (at_most 3)
-    ≡ declarations_text axes.Time none alone
+    ≡ declarations_text axes.Time none [] alone
     ++ codes "#0\n$dumpvars\nb0 !\nb10 \"\nb101 #\nb0 $\nb0 %\n$end\n"
     ++ codes "#500\nb111110100 !\nb1 \"\n"
     ++ codes "$comment step limit at 500\n$end\n"
@@ -136,7 +137,7 @@ alone_cut_in_time = refl
 
 -- of the time 499 there is the first instant alone, which the cut leaves before its end
 alone_timed_in_time : time_waves_text alone none [] (record { steps = 1; cut = Time })
-    ≡ declarations_text axes.Time none alone ++ codes "#0\n$dumpvars\nb0 !\nb1 \"\nb101 #\nb0 $\nb0 %\n$end\n" ++ codes "$comment time limit at 0\n$end\n"
+    ≡ declarations_text axes.Time none [] alone ++ codes "#0\n$dumpvars\nb0 !\nb1 \"\nb101 #\nb0 $\nb0 %\n$end\n" ++ codes "$comment time limit at 0\n$end\n"
 unfolding digits
 alone_timed_in_time = refl
 
@@ -151,7 +152,7 @@ waits =
     ∷ at 0 (op.Push (pos 500)) ∷ at 1 op.DelayUntil ∷ at 0 (op.ProtectedCall 0) ∷ at 0 op.Return ∷ [])
 
 waits_in_time : time_waves_text waits (named (codes "DOOR")) [] (at_most 100)
-    ≡ declarations_text axes.Time (named (codes "DOOR")) waits
+    ≡ declarations_text axes.Time (named (codes "DOOR")) [] waits
     ++ codes "#0\n$dumpvars\nb0 !\nb11 \"\nb1010 #\nb10 $\nb101 %\nb0 &\nb1 '\n$end\n"
     ++ codes "#500\nb111110100 !\nb101 \"\nb101 $\nb0 '\n"
     ++ codes "$comment ended at 500\n$end\n"
@@ -216,6 +217,41 @@ stores_in_time : time_waves_text stores stored [] (at_most 100)
     ++ codes "$comment ended at 500\n$end\n"
 unfolding digits
 stores_in_time = refl
+
+-- Inputs: channel 2 has lines at 0 and at 500, channel 5 one at 300, at which the clock is not: MAIN sleeps from 0 to 500
+
+abbrev heard : ℕ → ℕ → ℤ → ScheduleLine
+heard time channel value = record { time = pos time; channel = channel; value = value }
+
+abbrev two_channels : List ScheduleLine
+two_channels = heard 0 2 (pos 7) ∷ heard 300 5 (negsuc 0) ∷ heard 500 2 (pos 8) ∷ []
+
+abbrev two_inputs : List ℕ
+two_inputs =
+    codes "$var wire 64 ! time $end\n"
+    ++ codes "$scope module MAIN $end\n$var wire 3 \" state $end\n$var wire 8 # priority $end\n$upscope $end\n"
+    ++ codes "$scope module OBJECT_0 $end\n$var wire 8 $ inside $end\n$var wire 8 % queued $end\n$upscope $end\n"
+    ++ codes "$scope module inputs $end\n$var integer 64 & CHANNEL_2 $end\n$var integer 64 ' CHANNEL_5 $end\n$upscope $end\n"
+    ++ codes "$upscope $end\n$enddefinitions $end\n"
+
+inputs_waves : waves_text alone none two_channels (at_most 100)
+    ≡ preamble axes.Steps
+    ++ two_inputs
+    ++ codes "#0\n$dumpvars\nb0 !\nb1 \"\nb101 #\nb0 $\nb0 %\nb111 &\nb0 '\n$end\n"
+    ++ codes "#2\nb111110100 !\nb1000 &\nb" ++ ones ++ codes " '\n"
+    ++ codes "#5\nb110 \"\n#6\n$comment unhandled CONSTRAINT_ERROR in MAIN at 500\n$end\n"
+unfolding digits
+inputs_waves = refl
+
+-- the value of the line at 300 is shown at 500
+inputs_in_time : time_waves_text alone none two_channels (at_most 100)
+    ≡ preamble axes.Time
+    ++ two_inputs
+    ++ codes "#0\n$dumpvars\nb0 !\nb10 \"\nb101 #\nb0 $\nb0 %\nb111 &\nb0 '\n$end\n"
+    ++ codes "#500\nb111110100 !\nb110 \"\nb1000 &\nb" ++ ones ++ codes " '\n"
+    ++ codes "$comment unhandled CONSTRAINT_ERROR in MAIN at 500\n$end\n"
+unfolding digits
+inputs_in_time = refl
 
 -- the codes of the last signal with one character, of the first and the last with two, and of the greatest number
 codes_of_signals : map signal_code (93 ∷ 94 ∷ 8835 ∷ 8836 ∷ []) ≡ codes "~" ∷ codes "\"!" ∷ codes "~~" ∷ codes "\"!!" ∷ []

@@ -15,15 +15,15 @@ use Rattle.waveforms.specs.LastValues.{dumped_after}
 
 -- instants, and then more of them
 
-pub dumped_more : (scopes : Scopes) (dumped : Option (List ℕ)) (ks more : List CodeWorld) → dumped_after scopes dumped (ks ++ more) ≡ dumped_after scopes (dumped_after scopes dumped ks) more
-dumped_more scopes dumped [] more = refl
-dumped_more scopes dumped (w ∷ ws) more = dumped_more scopes (Some (values scopes w)) ws more
+pub dumped_more : (scopes : Scopes) (schedule : List ScheduleLine) (dumped : Option (List ℕ)) (ks more : List CodeWorld) → dumped_after scopes schedule dumped (ks ++ more) ≡ dumped_after scopes schedule (dumped_after scopes schedule dumped ks) more
+dumped_more scopes schedule dumped [] more = refl
+dumped_more scopes schedule dumped (w ∷ ws) more = dumped_more scopes schedule (Some (values scopes schedule w)) ws more
 
-pub text_more : (scopes : Scopes) (dumped : Option (List ℕ)) (ks more : List CodeWorld) → instants_text scopes dumped (ks ++ more) ≡ instants_text scopes dumped ks ++ instants_text scopes (dumped_after scopes dumped ks) more
-text_more scopes dumped [] more = refl
-text_more scopes dumped (w ∷ ws) more =
-    let first = instant_text (unsigned_abs w.kernel.now) dumped (values scopes w) in
-    ap (λ v. first ++ v) (text_more scopes (Some (values scopes w)) ws more) ∙ sym (append_assoc first (instants_text scopes (Some (values scopes w)) ws) (instants_text scopes (dumped_after scopes (Some (values scopes w)) ws) more))
+pub text_more : (scopes : Scopes) (schedule : List ScheduleLine) (dumped : Option (List ℕ)) (ks more : List CodeWorld) → instants_text scopes schedule dumped (ks ++ more) ≡ instants_text scopes schedule dumped ks ++ instants_text scopes schedule (dumped_after scopes schedule dumped ks) more
+text_more scopes schedule dumped [] more = refl
+text_more scopes schedule dumped (w ∷ ws) more =
+    let first = instant_text (unsigned_abs w.kernel.now) dumped (values scopes schedule w) in
+    ap (λ v. first ++ v) (text_more scopes schedule (Some (values scopes schedule w)) ws more) ∙ sym (append_assoc first (instants_text scopes schedule (Some (values scopes schedule w)) ws) (instants_text scopes schedule (dumped_after scopes schedule (Some (values scopes schedule w)) ws) more))
 
 -- a clock that stands still ends no instant
 
@@ -56,8 +56,8 @@ module _ (i : Sections) (schedule : List ScheduleLine) where
       ap (ended i schedule) e ∙ ap (λ v. ended i schedule (n + j) ++ v) last ∙ append-nil (ended i schedule (n + j)) ∙ ended_stay stays n o is j
 
 -- the text of the instant that a step has ended which leads past this time
-pub ended_text : (scopes : Scopes) (dumped : Option (List ℕ)) (time : ℤ) (w : CodeWorld) → int_lt time w.kernel.now ≡ true
-    → instants_text scopes dumped (ended_by time w) ≡ instant_text (unsigned_abs time) dumped (values scopes (world_before time w))
-ended_text scopes dumped time w later =
-    ap (λ (b : Bool). instants_text scopes dumped (if b then world_before time w ∷ [] else [])) later
-    ∙ append-nil (instant_text (unsigned_abs time) dumped (values scopes (world_before time w)))
+pub ended_text : (scopes : Scopes) (schedule : List ScheduleLine) (dumped : Option (List ℕ)) (time : ℤ) (w : CodeWorld) → int_lt time w.kernel.now ≡ true
+    → instants_text scopes schedule dumped (ended_by time w) ≡ instant_text (unsigned_abs time) dumped (values scopes schedule (world_before time w))
+ended_text scopes schedule dumped time w later =
+    ap (λ (b : Bool). instants_text scopes schedule dumped (if b then world_before time w ∷ [] else [])) later
+    ∙ append-nil (instant_text (unsigned_abs time) dumped (values scopes schedule (world_before time w)))

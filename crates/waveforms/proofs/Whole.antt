@@ -22,7 +22,7 @@ use Rattle.waveforms.proofs.Parts as parts
 
 module _ (i : Sections) (scopes : Scopes) (schedule : List ScheduleLine) (bound : Bound) where
   abbrev pub front : List ℕ
-  front = declarations_text axes.Steps scopes i ++ start_text 0 (values scopes (code i schedule 0))
+  front = declarations_text axes.Steps scopes schedule i ++ start_text 0 (values scopes schedule (code i schedule 0))
 
   abbrev pub changes : List ℕ
   changes = steps_text i scopes schedule bound.steps
@@ -56,8 +56,11 @@ last_is i schedule bound h image schedule_is o line ends said =
 
 -- what a machine has written of this image and schedule
 module _ (i : Sections) (scopes : Scopes) (schedule : List ScheduleLine) (bound : Bound) (h : HeldWorld) (image : h.image ≡ i) (schedule_is : h.schedule ≡ schedule) where
-  pub front_is : HoldsWorld h (code i schedule 0) → (text : List ℕ) → text ≡ declarations_text axes.Steps scopes i ++ start_text 0 (values scopes (world_of h)) → text ≡ front i scopes schedule bound
-  front_is stands text is = is ∙ ap (λ v. declarations_text axes.Steps scopes i ++ start_text 0 v) (sym (values_held scopes h (code i schedule 0) stands))
+  pub front_is : HoldsWorld h (code i schedule 0) → (read : List ScheduleLine) (text : List ℕ) → read ≡ schedule → text ≡ declarations_text axes.Steps scopes read i ++ start_text 0 (values scopes read (world_of h)) → text ≡ front i scopes schedule bound
+  front_is stands read text same is =
+      is
+      ∙ ap (λ s. declarations_text axes.Steps scopes s i ++ start_text 0 (values scopes s (world_of h))) same
+      ∙ ap (λ v. declarations_text axes.Steps scopes schedule i ++ start_text 0 v) (sym (values_held scopes schedule h (code i schedule 0) stands))
 
   pub changes_are : steps_text h.image scopes h.schedule bound.steps ≡ changes i scopes schedule bound
   changes_are = λ j. steps_text (image j) scopes (schedule_is j) bound.steps

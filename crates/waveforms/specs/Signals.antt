@@ -1,6 +1,10 @@
--- The values of a run's signals: its time, the states of its tasks and protected objects, and its variables, by the world of code.
+-- The values of a run's signals: its time, the states of its tasks and protected objects, its variables and its inputs, by the world of code.
 use Rattle.std.specs.Prelude.{ℕ, zero, suc, ◌+◌, ◌*◌, ℤ, pos, List, [], ◌∷◌, ◌++◌, Option, Some, None, Bool, false, get_or, length, map, nat_eq, slice_get, if◌then◌else◌}
 use Rattle.std.specs.Int.{cast_unsigned, w64}
+use Rattle.std.specs.List.{list_any}
+use Rattle.base.specs.Schedule.{input}
+use Rattle.base.specs.declared.limits.TheConstants.{CHANNELS}
+use Rattle.base.specs.declared.schedule.ScheduleLine.{ScheduleLine}
 use Rattle.kernel.specs.State.{Kernel, Outcome, Unhandled, TaskPlace, IsRunning, IsReady, IsAsleep, IsQueued, IsServed, IsFinished, active, inside, is_task}
 use Rattle.image.specs.Code.{CodeWorld}
 use Rattle.waveforms.specs.Scopes.{VariableScope, Scopes, Variable}
@@ -67,25 +71,46 @@ package_variables scopes = variables_in scopes.package_
 abbrev pub components : Scopes → ℕ → List Variable
 components scopes o = variables_in (slice_get scopes.objects o)
 
+-- Inputs
+
+abbrev pub has_line : List ScheduleLine → ℕ → Bool
+has_line schedule c = list_any (λ l. nat_eq l.channel c) schedule
+
+-- the channels that have a line in the schedule, in their order; the first one there may be is 1
+abbrev pub channels : List ScheduleLine → List ℕ
+channels schedule = all_below CHANNELS (λ n. if has_line schedule (suc n) then suc n ∷ [] else [])
+
+-- the value of a channel at a time, in 64 bits
+abbrev pub input_value : List ScheduleLine → (time : ℤ) → ℕ → ℕ
+input_value schedule time c = cast_unsigned w64 (input schedule c time)
+
+abbrev pub input_values : List ScheduleLine → (time : ℤ) → List ℕ
+input_values schedule time = map (input_value schedule time) (channels schedule)
+
 -- All, in the order in which the signals are declared
 
 abbrev pub shown_object : Scopes → CodeWorld → ℕ → List ℕ
 shown_object scopes w o = object_values w.kernel o ++ variable_values (w.rest.memory.objects o) (components scopes o)
 
--- the time is in 64 bits
-abbrev pub values : Scopes → CodeWorld → List ℕ
-values scopes w =
+-- those that the world determines alone; the time is in 64 bits
+abbrev pub world_values : Scopes → CodeWorld → List ℕ
+world_values scopes w =
     (cast_unsigned w64 w.kernel.now ∷ [])
     ++ all_below w.kernel.partition.tasks (task_values w.kernel)
     ++ variable_values w.rest.memory.plain (package_variables scopes)
     ++ all_below w.kernel.partition.objects (shown_object scopes w)
+
+-- with the inputs at its time
+abbrev pub values : Scopes → List ScheduleLine → CodeWorld → List ℕ
+values scopes schedule w = world_values scopes w ++ input_values schedule w.kernel.now
 
 -- Signals are numbered from 0. The first of the package follows the time and those of the tasks, of which there are so many.
 
 abbrev pub package_first : (tasks : ℕ) → ℕ
 package_first tasks = 1 + 2 * tasks
 
--- the first of object o follows those of the package and of the objects before it; so many signals there are before it
+-- The first of object o follows those of the package and of the objects before it; so many signals there are before it. The first of the inputs follows those
+-- of all objects.
 abbrev pub object_first : Scopes → (tasks : ℕ) → ℕ → ℕ
 object_first scopes tasks zero = package_first tasks + length (package_variables scopes)
 object_first scopes tasks (suc o) = object_first scopes tasks o + 2 + length (components scopes o)

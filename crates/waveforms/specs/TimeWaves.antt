@@ -18,15 +18,15 @@ instant_text time None new = start_text time new
 instant_text time (Some old) new = tick_text time ++ changes_text 0 old new
 
 -- that of each of these instants, by the values at its end and at that of the one before it; times are not negative
-abbrev pub instants_text : Scopes → Option (List ℕ) → List CodeWorld → List ℕ
-instants_text scopes dumped [] = []
-instants_text scopes dumped (w ∷ ws) =
-    instant_text (unsigned_abs w.kernel.now) dumped (values scopes w) ++ instants_text scopes (Some (values scopes w)) ws
+abbrev pub instants_text : Scopes → List ScheduleLine → Option (List ℕ) → List CodeWorld → List ℕ
+instants_text scopes schedule dumped [] = []
+instants_text scopes schedule dumped (w ∷ ws) =
+    instant_text (unsigned_abs w.kernel.now) dumped (values scopes schedule w) ++ instants_text scopes schedule (Some (values scopes schedule w)) ws
 
 -- all that is written of a run within a bound, with the variables of these scopes
 abbrev pub time_waves_text : Sections → Scopes → List ScheduleLine → Bound → List ℕ
 time_waves_text i scopes schedule bound =
     let k = (code i schedule bound.steps).kernel in
-    declarations_text Time scopes i
-    ++ instants_text scopes None (instants i schedule bound.steps)
+    declarations_text Time scopes schedule i
+    ++ instants_text scopes schedule None (instants i schedule bound.steps)
     ++ comment_text (cut_line bound.cut (names_of i) k.outcome k.now)

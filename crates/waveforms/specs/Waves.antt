@@ -10,7 +10,7 @@ use Rattle.image.specs.Texts.{names_of}
 use Rattle.machine.specs.Bounds.{cut_line}
 use Rattle.machine.specs.Taken.{steps_taken}
 use Rattle.machine.specs.declared.bound.Bound.{Bound}
-use Rattle.waveforms.specs.Signals.{all_below, components, object_first, package_first, values}
+use Rattle.waveforms.specs.Signals.{all_below, channels, components, object_first, package_first, values}
 use Rattle.waveforms.specs.declared.axis.Axis.{Axis}
 use Rattle.waveforms.specs.declared.axis.Axis.TheVariants as axes
 use Rattle.waveforms.specs.Scopes.{VariableScope, Scopes, Variable}
@@ -93,6 +93,22 @@ object_text scopes s o =
 abbrev pub object_scope : Scopes → (tasks : ℕ) → ℕ → List ℕ
 object_scope scopes tasks o = scope_text (object_name scopes o) (object_text scopes (object_first scopes tasks o) o)
 
+-- Inputs
+
+-- signed, as variables are
+abbrev pub channel_text : ℕ → ℕ → List ℕ
+channel_text s c = codes "$var integer 64 " ++ signal_code s ++ codes " CHANNEL_" ++ decimal c ++ codes " $end\n"
+
+-- the first of them has number s
+abbrev pub channels_text : ℕ → List ℕ → List ℕ
+channels_text s [] = []
+channels_text s (c ∷ cs) = channel_text s c ++ channels_text (suc s) cs
+
+-- no scope where no channel has a line
+abbrev pub inputs_scope : ℕ → List ℕ → List ℕ
+inputs_scope s [] = []
+inputs_scope s (c ∷ cs) = scope_text (codes "inputs") (channels_text s (c ∷ cs))
+
 -- All
 
 -- what a tick of the axis is
@@ -114,13 +130,14 @@ preamble axis =
     ++ timescale axis
     ++ codes "$scope module run $end\n"
 
-abbrev pub declarations_text : Axis → Scopes → Sections → List ℕ
-declarations_text axis scopes i =
+abbrev pub declarations_text : Axis → Scopes → List ScheduleLine → Sections → List ℕ
+declarations_text axis scopes schedule i =
     preamble axis
     ++ declaration_text (codes "64") 0 (codes "time")
     ++ all_below (length i.tasks) (task_scope (names_of i).task)
     ++ package_scope (length i.tasks) scopes.package_
     ++ all_below (length i.objects) (object_scope scopes (length i.tasks))
+    ++ inputs_scope (object_first scopes (length i.tasks) (length i.objects)) (channels schedule)
     ++ codes "$upscope $end\n$enddefinitions $end\n"
 
 -- Values
@@ -159,7 +176,7 @@ step_text n old new = if bytes_eq old new then [] else tick_text n ++ changes_te
 abbrev pub steps_text : Sections → Scopes → List ScheduleLine → ℕ → List ℕ
 steps_text i scopes schedule zero = []
 steps_text i scopes schedule (suc n) =
-    steps_text i scopes schedule n ++ step_text (suc n) (values scopes (code i schedule n)) (values scopes (code i schedule (suc n)))
+    steps_text i scopes schedule n ++ step_text (suc n) (values scopes schedule (code i schedule n)) (values scopes schedule (code i schedule (suc n)))
 
 -- the end of the last world's tick
 abbrev pub ending_text : ℕ → List ℕ → List ℕ
@@ -169,7 +186,7 @@ ending_text taken last = tick_text (taken + 1) ++ comment_text last
 abbrev pub waves_text : Sections → Scopes → List ScheduleLine → Bound → List ℕ
 waves_text i scopes schedule bound =
     let k = (code i schedule bound.steps).kernel in
-    declarations_text axes.Steps scopes i
-    ++ start_text 0 (values scopes (code i schedule 0))
+    declarations_text axes.Steps scopes schedule i
+    ++ start_text 0 (values scopes schedule (code i schedule 0))
     ++ steps_text i scopes schedule bound.steps
     ++ ending_text (steps_taken i schedule bound.steps) (cut_line bound.cut (names_of i) k.outcome k.now)

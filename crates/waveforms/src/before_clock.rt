@@ -91,7 +91,8 @@ fn add_objects<R: Ready, D: Delays>(
     }
 }
 
-/// The values of all signals at this time (microseconds since the start), from which the clock has moved to where it is now, in place of other ones.
+/// The values of all signals but the inputs at this time (microseconds since the start), from which the clock has moved to where it is now, in place of other
+/// ones.
 pub(crate) fn read_values_before_clock<R: Ready, D: Delays>(
     values: &mut Vec<u64>,
     machine: &Machine<'_, R, D>,
@@ -99,7 +100,7 @@ pub(crate) fn read_values_before_clock<R: Ready, D: Delays>(
     time: i64,
 )
     requires { object_first scopes.now (length machine.now.image.tasks) (length machine.now.image.objects) ≤ vec_capacity values.old }
-    ensures items { values.new.items ≡ signals.values scopes.now (world_before time (world_of machine.now)) }
+    ensures items { values.new.items ≡ signals.world_values scopes.now (world_before time (world_of machine.now)) }
     ensures count { length values.new.items ≡ object_first scopes.now (length machine.now.image.tasks) (length machine.now.image.objects) }
     ensures capacity { vec_capacity values.new ≡ vec_capacity values.old }
 {

@@ -6,13 +6,14 @@ ghost use Rattle.base.specs.declared.limits.TheConstants.{NAME_LIMIT, TASKS};
 ghost use Rattle.image.specs.Texts.{name_of};
 ghost use Rattle.waveforms.specs.Signals.{all_below};
 ghost use Rattle.waveforms.specs.Waves as waves;
-ghost use Rattle.waveforms.specs.Waves.{declaration_text, declarations_text, object_scope, object_text, package_scope, scope_text, task_scope, variable_text, variables_text};
+ghost use Rattle.waveforms.specs.Waves.{channel_text, channels_text, declaration_text, declarations_text, inputs_scope, object_scope, object_text, package_scope, scope_text, task_scope, variable_text, variables_text};
 ghost use Rattle.waveforms.specs.declared.declarations.TheConstants.{DECLARATION_BYTES};
 
 use crate::axis::Axis;
+use crate::inputs::Inputs;
 use crate::scopes::{Scopes, Variable, VariableScope};
 use crate::text::{CODE_BYTES, put, signal_code};
-use crate::values::{after_object, sum};
+use crate::values::{after_object, signal_count, sum};
 use arrayvec::ArrayVec;
 use base::Text;
 use base::limits::{NAME_LIMIT, TASKS};
@@ -256,6 +257,44 @@ fn add_objects(text: &mut Vec<u8>, scopes: &Scopes, tasks: u8, count: u8) -> Res
     Ok(())
 }
 
+// Adds the declaration of a channel, which has this signal.
+fn add_channel(text: &mut Vec<u8>, signal: usize, channel: u8) -> Result<(), AllocError>
+    ensures { OnOk result (text.new.items ≡ text.old.items ++ channel_text signal channel) }
+{
+    text.extend_from_slice(b"$var integer 64 ")?;
+    text.extend_from_slice(signal_code(signal).as_slice())?;
+    text.extend_from_slice(b" CHANNEL_")?;
+    text.extend_from_slice(Buffer::new().format(channel).as_bytes())?;
+    text.extend_from_slice(b" $end\n")?;
+    Ok(())
+}
+
+// Adds the declarations of channels, the first of which has this signal.
+fn add_channels(text: &mut Vec<u8>, first: usize, channels: &[u8]) -> Result<(), AllocError>
+    ensures { OnOk result (text.new.items ≡ text.old.items ++ channels_text first channels.now) }
+{
+    let mut signal = first;
+    for channel in channels {
+        add_channel(text, signal, *channel)?;
+        signal = sum(signal, 1)?;
+    }
+    Ok(())
+}
+
+// Adds the scope of the inputs, if there are any, the first of which has this signal.
+fn add_inputs(text: &mut Vec<u8>, first: usize, channels: &[u8]) -> Result<(), AllocError>
+    ensures { OnOk result (text.new.items ≡ text.old.items ++ inputs_scope first channels.now) }
+{
+    match channels {
+        [] => Ok(()),
+        [_, ..] => {
+            begin_scope(text, b"inputs")?;
+            add_channels(text, first, channels)?;
+            end_scope(text)
+        }
+    }
+}
+
 // What the file says of itself.
 fn preamble(alloc: Global, axis: Axis) -> Result<Vec<u8>, AllocError>
     ensures { IfOk result (λ text. text.items ≡ waves.preamble axis) }
@@ -278,19 +317,22 @@ pub(crate) fn declarations(
     axis: Axis,
     image: &Image,
     scopes: &Scopes,
+    inputs: &Inputs<'_>,
     tasks: u8,
     objects: u8,
 ) -> Result<Vec<u8>, AllocError>
     requires tasks { tasks ≡ length image.now.tasks }
     requires objects { objects ≡ length image.now.objects }
     requires few { tasks ≤ TASKS }
-    ensures { IfOk result (λ text. text.items ≡ declarations_text axis scopes.now image.now) }
+    ensures { IfOk result (λ text. text.items ≡ declarations_text axis scopes.now inputs.now image.now) }
 {
     let mut text = preamble(alloc, axis)?;
     text.extend_from_slice(declaration(b"64", 0, b"time").as_slice())?;
     add_tasks(&mut text, image.tasks(), tasks)?;
     add_package(&mut text, tasks, scopes.package_())?;
     add_objects(&mut text, scopes, tasks, objects)?;
+    let first = signal_count(scopes, tasks, objects)?;
+    add_inputs(&mut text, first, inputs.channels())?;
     text.extend_from_slice(b"$upscope $end\n$enddefinitions $end\n")?;
     Ok(text)
 }

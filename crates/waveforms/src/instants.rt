@@ -30,18 +30,20 @@ fn write_ended<R: Ready, D: Delays, S: Sink>(
     time: i64,
     machine: &Machine<'_, R, D>,
     scopes: &Scopes,
-    rows: &mut Rows,
+    rows: &mut Rows<'_>,
     sink: &mut S,
 ) -> Result<(), SinkError>
     requires { object_first scopes.now (length machine.now.image.tasks) (length machine.now.image.objects) ≡ rows.old.room }
-    ensures dumped { OnOk result (last_values rows.new ≡ dumped_after scopes.now (last_values rows.old) (ended_by time (world_of machine.now))) }
+    ensures dumped { OnOk result (last_values rows.new
+        ≡ dumped_after scopes.now rows.old.schedule (last_values rows.old) (ended_by time (world_of machine.now))) }
     ensures room { rows.new.room ≡ rows.old.room }
+    ensures schedule { rows.new.schedule ≡ rows.old.schedule }
     ensures whole { OnOk result (Appends (S.bytes sink.old) (S.bytes sink.new)
-        (instants_text scopes.now (last_values rows.old) (ended_by time (world_of machine.now)))) }
+        (instants_text scopes.now rows.old.schedule (last_values rows.old) (ended_by time (world_of machine.now)))) }
     ensures kept { OnOk result (S.failures sink.new ≡ S.failures sink.old) }
     ensures failed { OnErr result (S.failures sink.old < S.failures sink.new) }
     ensures beginning { OnErr result (AppendsBeginning (S.bytes sink.old) (S.bytes sink.new)
-        (instants_text scopes.now (last_values rows.old) (ended_by time (world_of machine.now)))) }
+        (instants_text scopes.now rows.old.schedule (last_values rows.old) (ended_by time (world_of machine.now)))) }
 {
     if machine.now() <= time {
         return Ok(());
@@ -54,27 +56,29 @@ fn write_ended<R: Ready, D: Delays, S: Sink>(
 fn write_all_ended<R: Ready, D: Delays, S: Sink, L: Ledger>(
     machine: &mut Machine<'_, R, D>,
     scopes: &Scopes,
-    rows: &mut Rows,
+    rows: &mut Rows<'_>,
     limit: u64,
     sink: &mut S,
     steps: &mut Steps<L>,
 ) -> Result<Outcome, RunFault>
     requires stands { HoldsWorld machine.old (code machine.old.image machine.old.schedule 0) }
     requires none { last_values rows.old ≡ None }
+    requires schedule { rows.old.schedule ≡ machine.old.schedule }
     requires room { object_first scopes.now (length machine.old.image.tasks) (length machine.old.image.objects) ≡ rows.old.room }
     ensures stands { OnOk result (HoldsWorld machine.new (code machine.old.image machine.old.schedule limit)) }
     ensures image { OnOk result (machine.new.image ≡ machine.old.image) }
     ensures dumped { OnOk result (last_values rows.new
-        ≡ dumped_after scopes.now None (ended machine.old.image machine.old.schedule limit)) }
+        ≡ dumped_after scopes.now machine.old.schedule None (ended machine.old.image machine.old.schedule limit)) }
     ensures room { OnOk result (rows.new.room ≡ rows.old.room) }
+    ensures schedule { OnOk result (rows.new.schedule ≡ rows.old.schedule) }
     ensures text { OnOk result (Appends (S.bytes sink.old) (S.bytes sink.new)
-        (instants_text scopes.now None (ended machine.old.image machine.old.schedule limit))) }
+        (instants_text scopes.now machine.old.schedule None (ended machine.old.image machine.old.schedule limit))) }
     ensures ends { IfOk result (λ outcome. EndsBy outcome (code machine.old.image machine.old.schedule limit)) }
     ensures kept { OnOk result (S.failures sink.new ≡ S.failures sink.old) }
     ensures fault { IfErr result (λ fault. fault ≡ RunFault.Write) }
     ensures failed { OnErr result (S.failures sink.old < S.failures sink.new) }
     ensures beginning { OnErr result (AppendsBeginning (S.bytes sink.old) (S.bytes sink.new)
-        (instants_text scopes.now None (ended machine.old.image machine.old.schedule limit))) }
+        (instants_text scopes.now machine.old.schedule None (ended machine.old.image machine.old.schedule limit))) }
     ensures count { steps.new ≤ steps.old + limit }
 {
     outcome_stays();
@@ -98,22 +102,23 @@ fn write_all_ended<R: Ready, D: Delays, S: Sink, L: Ledger>(
 fn write_instants<R: Ready, D: Delays, S: Sink, L: Ledger>(
     machine: &mut Machine<'_, R, D>,
     scopes: &Scopes,
-    rows: &mut Rows,
+    rows: &mut Rows<'_>,
     limit: u64,
     sink: &mut S,
     steps: &mut Steps<L>,
 ) -> Result<Outcome, RunFault>
     requires stands { HoldsWorld machine.old (code machine.old.image machine.old.schedule 0) }
     requires none { last_values rows.old ≡ None }
+    requires schedule { rows.old.schedule ≡ machine.old.schedule }
     requires room { object_first scopes.now (length machine.old.image.tasks) (length machine.old.image.objects) ≡ rows.old.room }
     ensures text { OnOk result (Appends (S.bytes sink.old) (S.bytes sink.new)
-        (instants_text scopes.now None (instants machine.old.image machine.old.schedule limit))) }
+        (instants_text scopes.now machine.old.schedule None (instants machine.old.image machine.old.schedule limit))) }
     ensures ends { IfOk result (λ outcome. EndsBy outcome (code machine.old.image machine.old.schedule limit)) }
     ensures kept { OnOk result (S.failures sink.new ≡ S.failures sink.old) }
     ensures fault { IfErr result (λ fault. fault ≡ RunFault.Write) }
     ensures failed { OnErr result (S.failures sink.old < S.failures sink.new) }
     ensures beginning { AppendsBeginning (S.bytes sink.old) (S.bytes sink.new)
-        (instants_text scopes.now None (instants machine.old.image machine.old.schedule limit)) }
+        (instants_text scopes.now machine.old.schedule None (instants machine.old.image machine.old.schedule limit)) }
     ensures count { steps.new ≤ steps.old + limit }
 {
     let outcome = write_all_ended(machine, scopes, rows, limit, sink, steps)?;
@@ -150,12 +155,13 @@ pub fn time_waves<S: Sink, L: Ledger>(
 {
     let mut machine: Machine<'_, RingReady, HeapDelays> = Machine::start(alloc, image, schedule)?;
     let signals = signal_count(scopes, machine.tasks(), machine.objects())?;
-    let mut rows = Rows::new(alloc, signals)?;
+    let mut rows = Rows::new(alloc, signals, schedule)?;
     let start = declarations(
         alloc,
         Axis::Time,
         image,
         scopes,
+        rows.inputs(),
         machine.tasks(),
         machine.objects(),
     )?;

@@ -4,6 +4,7 @@
 mod axis;
 mod before_clock;
 mod declarations;
+mod inputs;
 mod instants;
 mod rows;
 mod scopes;

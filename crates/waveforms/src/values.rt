@@ -12,7 +12,7 @@ use dispatch::Ready;
 use machine::{Machine, Outcome, Place};
 use std::alloc::AllocError;
 
-/// How many signals there are, where there are so many tasks and protected objects.
+/// How many signals there are beside the inputs, where there are so many tasks and protected objects.
 ///
 /// # Errors
 /// Where there are more than memory has places for.
@@ -170,14 +170,14 @@ fn add_objects<R: Ready, D: Delays>(
     }
 }
 
-/// The values of all signals of a machine, in place of other ones.
+/// The values of all signals of a machine but its inputs, in place of other ones.
 pub(crate) fn read_values<R: Ready, D: Delays>(
     values: &mut Vec<u64>,
     machine: &Machine<'_, R, D>,
     scopes: &Scopes,
 )
     requires { object_first scopes.now (length machine.now.image.tasks) (length machine.now.image.objects) ≤ vec_capacity values.old }
-    ensures items { values.new.items ≡ signals.values scopes.now (world_of machine.now) }
+    ensures items { values.new.items ≡ signals.world_values scopes.now (world_of machine.now) }
     ensures count { length values.new.items ≡ object_first scopes.now (length machine.now.image.tasks) (length machine.now.image.objects) }
     ensures capacity { vec_capacity values.new ≡ vec_capacity values.old }
 {

@@ -38,20 +38,23 @@ fn beginning<R: Ready, D: Delays>(
     image: &Image,
     scopes: &Scopes,
     machine: &Machine<'_, R, D>,
-    rows: &mut Rows,
+    rows: &mut Rows<'_>,
 ) -> Result<Vec<u8>, AllocError>
     requires image { machine.now.image ≡ image.now }
     requires room { object_first scopes.now (length machine.now.image.tasks) (length machine.now.image.objects) ≡ rows.old.room }
     ensures text { IfOk result (λ text.
-        text.items ≡ declarations_text axes.Steps scopes.now image.now ++ start_text 0 (values scopes.now (world_of machine.now))) }
-    ensures last { OnOk result (rows.new.last ≡ values scopes.now (world_of machine.now)) }
+        text.items ≡ declarations_text axes.Steps scopes.now rows.old.schedule image.now
+        ++ start_text 0 (values scopes.now rows.old.schedule (world_of machine.now))) }
+    ensures last { OnOk result (rows.new.last ≡ values scopes.now rows.old.schedule (world_of machine.now)) }
     ensures kept { OnOk result (rows.new.room ≡ rows.old.room) }
+    ensures schedule { OnOk result (rows.new.schedule ≡ rows.old.schedule) }
 {
     let mut text = declarations(
         alloc,
         Axis::Steps,
         image,
         scopes,
+        rows.inputs(),
         machine.tasks(),
         machine.objects(),
     )?;
@@ -64,13 +67,14 @@ fn beginning<R: Ready, D: Delays>(
 fn write_steps<R: Ready, D: Delays, S: Sink, L: Ledger>(
     machine: &mut Machine<'_, R, D>,
     scopes: &Scopes,
-    rows: &mut Rows,
+    rows: &mut Rows<'_>,
     limit: u64,
     sink: &mut S,
     steps: &mut Steps<L>,
 ) -> Result<Ending, RunFault>
     requires stands { HoldsWorld machine.old (code machine.old.image machine.old.schedule 0) }
-    requires last { rows.old.last ≡ values scopes.now (world_of machine.old) }
+    requires last { rows.old.last ≡ values scopes.now machine.old.schedule (world_of machine.old) }
+    requires schedule { rows.old.schedule ≡ machine.old.schedule }
     requires room { object_first scopes.now (length machine.old.image.tasks) (length machine.old.image.objects) ≡ rows.old.room }
     ensures changes { OnOk result (Appends (S.bytes sink.old) (S.bytes sink.new) (steps_text machine.old.image scopes.now machine.old.schedule limit)) }
     ensures ends { IfOk result (λ ending. EndsBy ending.outcome (code machine.old.image machine.old.schedule limit)) }
@@ -125,7 +129,7 @@ pub fn waves<S: Sink, L: Ledger>(
 {
     let mut machine: Machine<'_, RingReady, HeapDelays> = Machine::start(alloc, image, schedule)?;
     let signals = signal_count(scopes, machine.tasks(), machine.objects())?;
-    let mut rows = Rows::new(alloc, signals)?;
+    let mut rows = Rows::new(alloc, signals, schedule)?;
     let start = beginning(alloc, image, scopes, &machine, &mut rows)?;
     match write_all(sink, start.as_slice()) {
         Ok(()) => {}

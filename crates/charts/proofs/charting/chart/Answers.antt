@@ -2,13 +2,13 @@ use Rattle.std.proofs.Common.{rules, ◌≡◌, ◌∙◌, ap, length, of_z, sub
 use Rattle.std.proofs.lemmas.List.{with_items_is}
 use Rattle.std.specs.Io.KnownBytes.{Appends}
 use Rattle.machine.specs.Written.{AppendsBeginning}
-use Rattle.machine.proofs.Runs.{whole_beginning}
+use Rattle.machine.proofs.Runs.{nothing_written, whole_beginning}
 use Rattle.charts.specs.Scales.{least_scale}
 use Rattle.charts.specs.Signs.{nothing_seen}
 use Rattle.charts.specs.Tables.{HoldsCells}
 use Rattle.charts.specs.Text.{chart_text}
 use Rattle.charts.specs.declared.scale.TheConstants.{SCALES}
-use Rattle.charts.proofs.Whole.{ends_here, nothing_written, whole_is}
+use Rattle.charts.proofs.Whole.{ends_here, whole_is}
 use Rattle.charts.proofs.charting.chart.Goals as goal
 
 pub returns-in-Ok-clause-ends : goal.returns-in-Ok-clause-ends

@@ -1,9 +1,9 @@
 use Rattle.std.proofs.Common.{◌∙◌, ap, length, subst}
 use Rattle.std.specs.Io.KnownBytes.{Appends}
 use Rattle.machine.specs.Written.{AppendsBeginning}
-use Rattle.machine.proofs.Runs.{whole_beginning}
+use Rattle.machine.proofs.Runs.{nothing_written, whole_beginning}
 use Rattle.pictures.specs.Pictures.{picture_text}
-use Rattle.pictures.proofs.Whole.{frame_is, nothing_written, whole_is}
+use Rattle.pictures.proofs.Whole.{frame_is, whole_is}
 use Rattle.pictures.proofs.drawing.picture.Goals as goal
 
 pub returns-in-Ok-clause-text : goal.returns-in-Ok-clause-text

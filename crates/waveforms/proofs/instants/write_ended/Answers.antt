@@ -18,7 +18,7 @@ returns-clause-beginning g c =
     let w = world_of c.args.machine.now in
     let dumped = last_values c.args.rows.now in
     let later : int_lt c.args.time w.kernel.now ≡ true = search rules in
-    let text : c.ended.new.self.text ≡ instant_text (unsigned_abs c.args.time) dumped (values c.args.scopes.now (world_before c.args.time w)) = search rules in
+    let text : c.ended.new.self.text ≡ instant_text (unsigned_abs c.args.time) dumped (values c.args.scopes.now c.args.rows.now.schedule (world_before c.args.time w)) = search rules in
     if_error c.write_all.result
     (subst (AppendsBeginning (g.S.Sink.bytes c.args.sink.now) (g.S.Sink.bytes c.write_all.new.sink))
-    (c.text.ensures ∙ text ∙ sym (ended_text c.args.scopes.now dumped c.args.time w later)) c.write_all.ensures.beginning)
+    (c.text.ensures ∙ text ∙ sym (ended_text c.args.scopes.now c.args.rows.now.schedule dumped c.args.time w later)) c.write_all.ensures.beginning)

@@ -1,27 +1,33 @@
-use Rattle.std.proofs.Common.{[], ◌∙◌, subst}
+use Rattle.std.proofs.Common.{◌∙◌, ap, subst}
 use Rattle.std.specs.Io.KnownBytes.{Appends}
 use Rattle.machine.specs.Written.{AppendsBeginning}
-use Rattle.machine.proofs.Runs.{appends_nothing, beginning_of_more, whole_beginning}
+use Rattle.machine.proofs.Runs.{nothing_written, whole_beginning}
 use Rattle.waveforms.specs.Waves.{waves_text}
 use Rattle.waveforms.proofs.Whole.{changes_are, changes_begun, end_begun, end_is, front_begun, front_is, whole}
 use Rattle.waveforms.proofs.waves_of.waves.Goals as goal
 
 pub returns-in_err-start-clause-beginning : goal.returns-in_err-start-clause-beginning
 returns-in_err-start-clause-beginning g c =
-    let known = g.S.Sink.bytes c.args.sink.now in
-    beginning_of_more known known [] (waves_text c.args.image.now c.args.scopes.now c.args.schedule.now c.args.bound)
-    (whole_beginning known known [] (appends_nothing known))
+    nothing_written (g.S.Sink.bytes c.args.sink.now) (waves_text c.args.image.now c.args.scopes.now c.args.schedule.now c.args.bound)
+
+pub returns-in_err-signals-clause-beginning : goal.returns-in_err-signals-clause-beginning
+returns-in_err-signals-clause-beginning g c =
+    nothing_written (g.S.Sink.bytes c.args.sink.now) (waves_text c.args.image.now c.args.scopes.now c.args.schedule.now c.args.bound)
+
+pub returns-in_err-rows-clause-beginning : goal.returns-in_err-rows-clause-beginning
+returns-in_err-rows-clause-beginning g c =
+    nothing_written (g.S.Sink.bytes c.args.sink.now) (waves_text c.args.image.now c.args.scopes.now c.args.schedule.now c.args.bound)
 
 pub returns-in-Err-clause-beginning : goal.returns-in-Err-clause-beginning
 returns-in-Err-clause-beginning g c =
     let m = c.in_ok-machine.ensures in
-    let is = front_is c.args.image.now c.args.scopes.now c.args.schedule.now c.args.bound c.in_ok-machine.machine m.image m.schedule m.stands _ (c.as_slice.ensures.value ∙ c.in_ok-start.ensures.text) in
+    let is = front_is c.args.image.now c.args.scopes.now c.args.schedule.now c.args.bound c.in_ok-machine.machine m.image m.schedule m.stands c.in_ok-rows.rows.schedule _ (ap (λ r. r.schedule) c.in_ok-rows.ensures) (c.as_slice.ensures.value ∙ c.in_ok-start.ensures.text) in
     front_begun c.args.image.now c.args.scopes.now c.args.schedule.now c.args.bound (g.S.Sink.bytes c.args.sink.now) (g.S.Sink.bytes c.write_all.new.sink) (subst (AppendsBeginning (g.S.Sink.bytes c.args.sink.now) (g.S.Sink.bytes c.write_all.new.sink)) is c.in-Err.ensures.beginning)
 
 pub returns-in_err-ending-clause-beginning : goal.returns-in_err-ending-clause-beginning
 returns-in_err-ending-clause-beginning g c =
     let m = c.in_ok-machine.ensures in
-    let is = front_is c.args.image.now c.args.scopes.now c.args.schedule.now c.args.bound c.in_ok-machine.machine m.image m.schedule m.stands _ (c.as_slice.ensures.value ∙ c.in_ok-start.ensures.text) in
+    let is = front_is c.args.image.now c.args.scopes.now c.args.schedule.now c.args.bound c.in_ok-machine.machine m.image m.schedule m.stands c.in_ok-rows.rows.schedule _ (ap (λ r. r.schedule) c.in_ok-rows.ensures) (c.as_slice.ensures.value ∙ c.in_ok-start.ensures.text) in
     let are = changes_are c.args.image.now c.args.scopes.now c.args.schedule.now c.args.bound c.in_ok-machine.machine m.image m.schedule in
     let wrote = subst (Appends (g.S.Sink.bytes c.args.sink.now) (g.S.Sink.bytes c.write_all.new.sink)) is c.in-Ok.ensures.whole in
     changes_begun c.args.image.now c.args.scopes.now c.args.schedule.now c.args.bound (g.S.Sink.bytes c.args.sink.now) (g.S.Sink.bytes c.write_all.new.sink) wrote (g.S.Sink.bytes c.write_steps.new.sink)
@@ -30,7 +36,7 @@ returns-in_err-ending-clause-beginning g c =
 pub returns-in-Ok-write_all-clause-text : goal.returns-in-Ok-write_all-clause-text
 returns-in-Ok-write_all-clause-text g c =
     let m = c.in_ok-machine.ensures in
-    let is = front_is c.args.image.now c.args.scopes.now c.args.schedule.now c.args.bound c.in_ok-machine.machine m.image m.schedule m.stands _ (c.as_slice.ensures.value ∙ c.in_ok-start.ensures.text) in
+    let is = front_is c.args.image.now c.args.scopes.now c.args.schedule.now c.args.bound c.in_ok-machine.machine m.image m.schedule m.stands c.in_ok-rows.rows.schedule _ (ap (λ r. r.schedule) c.in_ok-rows.ensures) (c.as_slice.ensures.value ∙ c.in_ok-start.ensures.text) in
     let are = changes_are c.args.image.now c.args.scopes.now c.args.schedule.now c.args.bound c.in_ok-machine.machine m.image m.schedule in
     let wrote = subst (Appends (g.S.Sink.bytes c.args.sink.now) (g.S.Sink.bytes c.write_all.new.sink)) is c.in-Ok.ensures.whole in
     let changes = subst (Appends (g.S.Sink.bytes c.write_all.new.sink) (g.S.Sink.bytes c.write_steps.new.sink)) are c.in_ok-ending.ensures.changes in
@@ -46,7 +52,7 @@ returns-in-Ok-write_all-clause-beginning g c =
 pub returns-clause-beginning : goal.returns-clause-beginning
 returns-clause-beginning g c =
     let m = c.in_ok-machine.ensures in
-    let is = front_is c.args.image.now c.args.scopes.now c.args.schedule.now c.args.bound c.in_ok-machine.machine m.image m.schedule m.stands _ (c.as_slice.ensures.value ∙ c.in_ok-start.ensures.text) in
+    let is = front_is c.args.image.now c.args.scopes.now c.args.schedule.now c.args.bound c.in_ok-machine.machine m.image m.schedule m.stands c.in_ok-rows.rows.schedule _ (ap (λ r. r.schedule) c.in_ok-rows.ensures) (c.as_slice.ensures.value ∙ c.in_ok-start.ensures.text) in
     let are = changes_are c.args.image.now c.args.scopes.now c.args.schedule.now c.args.bound c.in_ok-machine.machine m.image m.schedule in
     let wrote = subst (Appends (g.S.Sink.bytes c.args.sink.now) (g.S.Sink.bytes c.write_all.new.sink)) is c.in-Ok.ensures.whole in
     let changes = subst (Appends (g.S.Sink.bytes c.write_all.new.sink) (g.S.Sink.bytes c.write_steps.new.sink)) are c.in_ok-ending.ensures.changes in

@@ -1,31 +1,36 @@
 use Rattle.std.proofs.Common.{◌≡◌, ◌∙◌, ◌+◌, ◌≤◌, ap, arith, inl, inr, refl, subst, sym}
 use Rattle.std.specs.Io.KnownBytes.{Appends}
+use Rattle.execution.specs.Held.{world_of}
 use Rattle.machine.specs.Written.{AppendsBeginning}
+use Rattle.waveforms.specs.Signals.{values}
 use Rattle.waveforms.specs.Waves.{step_text}
 use Rattle.waveforms.proofs.Dumped.{broken_step, dumped_nothing, dumped_on, dumped_over}
 use Rattle.waveforms.proofs.waves_of.write_steps.Goals as goal
 
 pub loop-taken-init : goal.loop-taken-init
-loop-taken-init g c = (dumped_nothing c.args.scopes.now c.args.machine.now _ _ _ c.requires.stands c.requires.last, omega arith, omega arith, refl)
+loop-taken-init g c = (dumped_nothing c.args.scopes.now c.args.machine.now _ _ _ c.requires.stands c.requires.last, omega arith, omega arith, refl, c.requires.schedule)
 
 pub loop-taken-preserved : goal.loop-taken-preserved
 loop-taken-preserved g c =
     let less = c.loop-taken-test.true in
+    let are = c.step-in-loop-taken.ensures.last ∙ ap (λ s. values c.args.scopes.now s (world_of c.step.new.self)) c.loop-taken.invariant.4 in
     let text = c.text.ensures ∙ c.step-in-loop-taken.ensures.text ∙ ap (step_text (c.loop-taken.taken + 1) c.loop-taken.rows.last) (sym c.step-in-loop-taken.ensures.last) in
     let wrote = subst (Appends (g.S.Sink.bytes c.loop-taken.sink) (g.S.Sink.bytes c.write_all.new.sink)) text c.in-Ok.ensures.whole in (
-      dumped_on _ _ _ _ _ _ _ _ _ _ c.loop-taken.invariant.0 c.step.new.self c.step.result c.step.ensures.world (sym c.in_default.ensures.outcome) _ c.step-in-loop-taken.ensures.last _
+      dumped_on _ _ _ _ _ _ _ _ _ _ c.loop-taken.invariant.0 c.step.new.self c.step.result c.step.ensures.world (sym c.in_default.ensures.outcome) _ are _
           c.step.ensures.image c.step.ensures.schedule _ wrote c.in-Ok.ensures.kept,
       omega (arith, less),
       omega (arith, c.loop-taken.invariant.2, c.step.ensures.one),
       c.step-in-loop-taken.ensures.room ∙ c.loop-taken.invariant.3,
+      c.step-in-loop-taken.ensures.schedule ∙ c.loop-taken.invariant.4,
     )
 
 pub returns-in-Err-clause-beginning : goal.returns-in-Err-clause-beginning
 returns-in-Err-clause-beginning g c =
     let less = c.loop-taken-test.true in
     let le : c.loop-taken.taken + 1 ≤ c.args.limit = omega (arith, less) in
+    let are = c.step-in-loop-taken.ensures.last ∙ ap (λ s. values c.args.scopes.now s (world_of c.step.new.self)) c.loop-taken.invariant.4 in
     let text = c.text.ensures ∙ c.step-in-loop-taken.ensures.text ∙ ap (step_text (c.loop-taken.taken + 1) c.loop-taken.rows.last) (sym c.step-in-loop-taken.ensures.last) in
-    broken_step _ _ _ _ _ _ _ _ _ _ c.loop-taken.invariant.0 c.step.new.self c.step.result c.step.ensures.world (sym c.in_default.ensures.outcome) _ c.step-in-loop-taken.ensures.last _ c.args.limit le
+    broken_step _ _ _ _ _ _ _ _ _ _ c.loop-taken.invariant.0 c.step.new.self c.step.result c.step.ensures.world (sym c.in_default.ensures.outcome) _ are _ c.args.limit le
     (subst (AppendsBeginning (g.S.Sink.bytes c.loop-taken.sink) (g.S.Sink.bytes c.write_all.new.sink)) text c.in-Err.ensures.beginning)
 
 pub returns-in-Some-clause-changes : goal.returns-in-Some-clause-changes

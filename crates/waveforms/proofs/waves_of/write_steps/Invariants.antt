@@ -8,6 +8,7 @@ invariant-loop-taken g l =
     × (l.taken ≤ l.fn.limit)
     × (l.steps ≤ l.fn.steps + l.taken)
     × (l.rows.room ≡ l.fn.rows.room)
+    × (l.rows.schedule ≡ l.fn.machine.schedule)
 
 abbrev pub decreases-loop-taken : goal.decreases-loop-taken
 decreases-loop-taken g l = l.fn.limit - l.taken
