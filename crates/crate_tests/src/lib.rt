@@ -1,5 +1,5 @@
 //! Tests of what the machine and its keepers do beyond what the program runs: lists as well as rings and a heap, and each step by itself; whether
-//! exclusion holds after a step; and of the parser of whole Ada.
+//! exclusion holds after a step; and of the parser of whole Ada, what names denote there, and how it is lowered.
 #![tactic(auto)]
 
 ghost use Rattle.std.specs.Prelude.{◌≡◌};
@@ -12,6 +12,12 @@ pub mod exclusion;
 #[cfg(test)]
 mod keepers;
 #[cfg(test)]
+mod lowered_texts;
+#[cfg(test)]
+mod name_rows;
+#[cfg(test)]
 mod parsed_texts;
+#[cfg(test)]
+mod resolved_names;
 #[cfg(test)]
 mod worked_images;

@@ -1,0 +1,19 @@
+//! Texts of whole Ada 2012 with what the language of adarun has other words for, in these words: by edits of the text, line for line.
+#![tactic(auto)]
+
+mod aspects;
+mod changes;
+mod endings;
+mod fault;
+mod functions;
+mod labels;
+mod literals;
+mod lowering;
+mod names;
+mod numbers;
+mod source;
+mod statics;
+mod walk;
+
+pub use fault::{Fault, FaultKind, Lowered, Note, NoteKind};
+pub use lowering::{ROUNDS, lower};
