@@ -4,9 +4,9 @@
     refusals.py PROGRAM REFUSING SCRATCH
 
 REFUSING is what refuses, and tells that it did (refuse.c). A call in which a request was refused writes nothing but `no memory`, ends with status 8, and leaves
-the files as they were, so that the same call with memory, made after it, does what it should; the others do that too. Two go on where docs/FORMATS.md has it
-("Commands", "Exit statuses"): one of `simulate` that has reported less for want of memory leaves what `go` does, and a search that found none, and was refused
-room ahead for the digits of a number, leaves its answer.
+the files as they were, so that the same call with memory, made after it, does what it should; the others do that too. Three go on where docs/FORMATS.md has it
+("Commands", "Exit statuses"): one of `simulate` that has reported less for want of memory leaves what `go` does, and a search that found none, and `measure` of a
+set, which were refused room ahead for the digits of a number, leave their answer.
 """
 import os
 import subprocess
@@ -141,7 +141,7 @@ def calls_of_commands(program, folder):
         ("measure", ["measure", "main.adb", "input", "1000"], files, None),
         ("measure --tsv", ["measure", "--tsv", "main.adb", "input", "1000"], files, None),
         ("measure up to a time", ["measure", "main.adb", "input", "1000", "--until", "9000"], files, None),
-        ("measure of a set", ["measure", "main.adb", "choices", "20000", "1000"], {"main.adb": tank, "choices": choices}, None),
+        ("measure of a set", ["measure", "main.adb", "choices", "20000", "1000"], {"main.adb": tank, "choices": choices}, "the answer"),
         ("search that finds none", ["search", "main.adb", "choices", "20000", "1000"], {"main.adb": tank, "choices": choices}, "the answer"),
         ("search that finds a line", ["search", "main.adb", "choices", "20000", "1000", "line", "alarm"], {"main.adb": tank, "choices": choices}, None),
         ("search of a part", ["search", "main.adb", "choices", "20000", "1000", "line", "alarm", "--part", "2/2"], {"main.adb": tank, "choices": choices}, None),
