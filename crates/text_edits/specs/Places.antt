@@ -2,8 +2,8 @@
 use Rattle.std.specs.Prelude.{◌≡◌, ◌≢◌, ℕ, ◌+◌, ◌-◌, nat_lt, List, [], ◌∷◌, get_or, length, take, if◌then◌else◌}
 use Rattle.text_edits.specs.Edits.{AreEditsFrom, EditedText, TextEdit, edited, line_feed, line_feeds}
 
--- Of what follows the byte `at` of the text and the edits before it, the byte at this place: what is outside of edits comes from itself, and a replacement from
--- the first byte of what it replaces.
+-- The byte of a text from which the byte at a place comes, where places are counted from the byte `at` of the text on, after the edits before it. What is
+-- outside of edits comes from itself, and a replacement from the first byte of what it replaces.
 abbrev pub origin_from : (at place : ℕ) → List TextEdit → ℕ
 origin_from at place [] = at + place
 origin_from at place (edit ∷ edits) =
