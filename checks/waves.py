@@ -31,6 +31,7 @@ UNTIL = 20_000
 FIRST_CODE, CODES = 33, 94
 NAME = re.compile(r"[A-Za-z_][A-Za-z0-9_$]*$|\\[!-~]+$")
 WIDE = 2**64
+NOT_WRITTEN = object()
 
 
 class Wrong(Exception):
@@ -44,7 +45,7 @@ def need(test, told):
 
 class Dump:
     """A dump: how long a tick is, its signals in the order in which they are declared, (scopes and name, bits, kind), what changes at each tick, and the last
-    tick. A name that begins with `\\` is one without it (an escaped identifier)."""
+    tick. A name that begins with `\\` is one without it (an escaped identifier), and a value of x is None: it isn't known."""
 
     def __init__(self, text):
         self.words, self.signals, self.codes, self.changes, self.end, self.comments = iter(text.split()), [], {}, {}, None, []
@@ -116,10 +117,10 @@ class Dump:
             bits, code = word[1:], next(self.words, "")
         else:
             bits, code = word[0], word[1:]
-        need(bits and set(bits) <= {"0", "1"} and code in self.codes, f"value {word} {code}")
+        need(bits and (set(bits) <= {"0", "1"} or set(bits) == {"x"}) and code in self.codes, f"value {word} {code}")
         signal = self.codes[code]
         need(len(bits) <= self.signals[signal][1] and signal not in changes, f"value {word} {code}")
-        changes[signal] = int(bits, 2)
+        changes[signal] = None if bits[0] == "x" else int(bits, 2)
 
 
 def signals_of(world):
@@ -133,6 +134,7 @@ def signals_of(world):
         signals += [(("run", own, "inside"), 8, "wire"), (("run", own, "queued"), 8, "wire")]
         signals += [(("run", own, name), 64, "integer") for name, _ in components]
     signals += [(("run", "inputs", f"CHANNEL_{channel}"), 64, "integer") for channel in channels_of(world)]
+    signals += [(("run", "lines", f"{task}.{label}"), 64, "integer") for task, label in world.labels_put]
     return signals
 
 
@@ -148,7 +150,7 @@ def code_of(signal):
 
 
 def values_of(world):
-    """Their values."""
+    """Their values, but those of lines."""
     (_, variables), objects = world.scopes
     left = world.running if world.outcome and world.outcome.startswith("unhandled") else None
     values = [world.now]
@@ -168,16 +170,30 @@ def values_of(world):
 
 class Watched(World):
     """A world that keeps what its signals have at the start and after each step, and where its clock moves on from a time: nobody runs or is ready, and those
-    due sleep still. Words are then those that the step has left which lets the clock move."""
+    due sleep still. Words are then those that the step has left which lets the clock move. With the values it keeps how many lines there were."""
 
     def __init__(self, scopes, *given):
-        self.scopes, self.time, self.instants, self.seen, self.read = scopes, None, [], [], (None, [])
+        self.scopes, self.time, self.instants, self.seen, self.read, self.labels_put = scopes, None, [], [], (None, []), []
         super().__init__(*given)
-        self.seen.append(values_of(self))
+        self.seen.append(self.moment())
 
     def step(self):
         super().step()
-        self.seen.append(values_of(self))
+        self.seen.append(self.moment())
+
+    def moment(self):
+        return values_of(self), len(self.lines)
+
+    def with_lines(self, moments):
+        """The values at moments of the run, and after them those of the last lines under each label, None where there is none yet."""
+        put, noted, shown = dict.fromkeys(self.labels_put), 0, []
+        for values, count in moments:
+            for line in self.lines[noted:count]:
+                _, task, label, value = line.split()
+                put[task, label] = int(value) % WIDE
+            noted = count
+            shown.append([*values, *put.values()])
+        return shown
 
     def inputs_now(self):
         """The values of the channels that have a line, which are read once for each time."""
@@ -192,15 +208,17 @@ class Watched(World):
     @now.setter
     def now(self, time):
         if self.time is not None and time > self.time:
-            self.instants.append((self.time, values_of(self)))
+            self.instants.append((self.time, self.moment()))
         self.time = time
 
     def watched(self, until):
         """The values after the steps of a run up to a time, those at the end of each instant, and its last line. A step that passes the time is none of them."""
         past = -1 if self.is_past(until) else None
         seen = self.seen[:past]
-        end = seen[-1][0]
-        return seen, [*self.instants[:past], (end, seen[-1])], self.last_line(end, until)
+        (end, *_), count = seen[-1]
+        self.labels_put = list(dict.fromkeys(tuple(line.split()[1:3]) for line in self.lines[:count]))
+        times, moments = zip(*self.instants[:past], (end, seen[-1]))
+        return self.with_lines(seen), list(zip(times, self.with_lines(moments))), self.last_line(end, until)
 
 
 def differing(told, values):
@@ -216,7 +234,7 @@ def declared(dump, world):
 def compare_times(dump, instants):
     """Each value at each instant is the one that the reference has at its end, nothing else is told to change, and all instants are there, and no others."""
     need(dump.timescale == "1 us", f"timescale {dump.timescale}")
-    told, changes = [None] * len(dump.signals), {}
+    told, changes = [NOT_WRITTEN] * len(dump.signals), {}
     for time, values in instants:
         changes[time], told = differing(told, values), values
     wrong = [time for time in {**changes, **dump.changes} if changes.get(time) != dump.changes.get(time)]
@@ -227,7 +245,7 @@ def compare_times(dump, instants):
 def compare(dump, seen):
     """Each value at each tick is the reference's, nothing else is told to change, and the dump ends after the last step."""
     need(dump.timescale == "1 ns", f"timescale {dump.timescale}")
-    told = [None] * len(dump.signals)
+    told = [NOT_WRITTEN] * len(dump.signals)
     for step, values in enumerate(seen):
         changes = differing(told, values)
         need(dump.changes.pop(step, {}) == changes, f"at step {step}: the reference changes {changes}")

@@ -13,5 +13,5 @@ mod texts;
 
 pub use arithmetic::Checked;
 pub use exceptions::PredefinedException;
-pub use schedule::{ScheduleLine, input_of};
+pub use schedule::ScheduleLine;
 pub use texts::Text;

@@ -1,12 +1,13 @@
 -- What one step has shown.
-use Rattle.std.proofs.Common.{◌≡◌, ℕ, ◌+◌, List, [], ◌∷◌, ◌++◌, Some, None, sym, ap, ◌∙◌, append-nil}
+use Rattle.std.proofs.Common.{◌≡◌, ℕ, ◌+◌, List, [], ◌∷◌, ◌++◌, Option, Some, None, refl, sym, ap, subst, ◌∙◌, append-nil}
 use Rattle.kernel.specs.State as kernel
 use Rattle.kernel.specs.Text.{line_text}
 use Rattle.image.specs.Code.{code}
 use Rattle.image.specs.Texts.{names_of}
 use Rattle.image_laws.specs.Laws.{OutcomeStays}
 use Rattle.tasking.specs.Held.{kernel_of}
-use Rattle.execution.specs.Held.{HeldWorld, Leads, world_with}
+use Rattle.execution.specs.Held.{HeldWorld, Leads, lines_of, world_with}
+use Rattle.execution.specs.declared.line.Line.{Line}
 use Rattle.machine.specs.Outcomes.{ending_of}
 use Rattle.machine.specs.Stands.{IsLast, ShowsText, HoldsWorld}
 use Rattle.machine.specs.declared.reports.Event.{Event}
@@ -58,3 +59,29 @@ module _ (h next : HeldWorld) (m : ℕ) (stands : HoldsWorld h (code h.image h.s
       stands_by next (code h.image h.schedule (m + 1)) _ e,
       (same_lines, ap (λ w. w.kernel.outcome) e ∙ sym is, ap (λ w. w.kernel.now) e ∙ sym last.2, (last.0, last.1)),
     )
+
+-- Lines before they are text
+
+-- by whether there is an outcome
+by_outcome : (P : Type 0) (o : Option kernel.Outcome) → (o ≡ None → P) → ((e : kernel.Outcome) → o ≡ Some e → P) → P
+by_outcome P None without with_one = without refl
+by_outcome P (Some e) without with_one = with_one e refl
+
+-- the world after one more step, and the line that it wrote, if any
+pub line_stepped : OutcomeStays → (h next : HeldWorld) (line : Option Line) → ((kernel_of h.tasking).outcome ≡ None → Leads 1 h next (lines_of h.image line)) →
+    ((o : kernel.Outcome) → (kernel_of h.tasking).outcome ≡ Some o → (line ≡ None) × (next ≡ h)) → (m : ℕ) → HoldsWorld h (code h.image h.schedule m) →
+    HoldsWorld next (code h.image h.schedule (m + 1)) × ((code h.image h.schedule (m + 1)).kernel.lines ≡ (code h.image h.schedule m).kernel.lines ++ lines_of h.image line)
+line_stepped stays h next line going over m stands =
+    by_outcome
+    (HoldsWorld next (code h.image h.schedule (m + 1)) × ((code h.image h.schedule (m + 1)).kernel.lines ≡ (code h.image h.schedule m).kernel.lines ++ lines_of h.image line))
+    (kernel_of h.tasking).outcome
+    (λ none. let e = led_on h next m 1 (lines_of h.image line) stands (going none) in (stands_by next (code h.image h.schedule (m + 1)) _ e, ap (λ w. w.kernel.lines) e))
+    (λ o is.
+    let ends = over o is in
+    let same = stays h.image h.schedule m 1 o (ap (λ w. w.kernel.outcome) stands ∙ is) in
+    let here : HoldsWorld h (code h.image h.schedule (m + 1)) = same ∙ (stands ∙ ap (λ l. world_with l h) (sym (ap (λ w. w.kernel.lines) same))) in (
+      subst (λ (x : HeldWorld). HoldsWorld x (code h.image h.schedule (m + 1))) (sym ends.1) here,
+      ap (λ w. w.kernel.lines) same
+          ∙ sym (append-nil (code h.image h.schedule m).kernel.lines)
+          ∙ ap (λ l. (code h.image h.schedule m).kernel.lines ++ lines_of h.image l) (sym ends.0),
+    ))

@@ -41,7 +41,7 @@ use tasking::{Place, Refusal};
 /// A machine that runs an image, over keepers of ready and of sleeping tasks. Memory is taken by `start` alone.
 #[derive(Drop)]
 pub struct Machine<'a, R: Ready, D: Delays> {
-    execution: Execution<'a, 'a, R, D>,
+    pub(crate) execution: Execution<'a, 'a, R, D>,
 }
 
 impl<'a, R: Ready, D: Delays> Model for Machine<'a, R, D> {

@@ -48,6 +48,14 @@ fn text_at(texts: &[Text], number: usize) -> &[u8]
     }
 }
 
+/// The label with this number of an image, or none where there is no such label.
+pub fn label(image: &Image, number: u16) -> &[u8]
+    ensures same { result.now ≡ text_at image.now.labels number }
+    ensures short { length result.now ≤ NAME_LIMIT }
+{
+    text_at(image.labels(), usize::from(number))
+}
+
 /// The name of an exception among those of an image, counted from 1; number 0 has none.
 pub fn exception_name(texts: &[Text], number: u16) -> &[u8]
     ensures same { result.now ≡ text_from_one texts.now number }
@@ -109,7 +117,7 @@ pub(crate) fn line_text(image: &Image, line: &Line) -> LineText
     put(&mut text, b" ");
     put_actor(&mut text, image, line.task);
     put(&mut text, b" ");
-    put(&mut text, text_at(image.labels(), usize::from(line.label)));
+    put(&mut text, label(image, line.label));
     put(&mut text, b" ");
     put_number(&mut text, line.value);
     put(&mut text, b"\n");

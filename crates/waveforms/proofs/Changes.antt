@@ -1,8 +1,8 @@
 -- The texts of values and of changes, signal by signal.
-use Rattle.std.proofs.Common.{◌≡◌, ℕ, suc, ◌+◌, ◌≤◌, List, [], ◌∷◌, ◌++◌, drop, length, refl, sym, ap, ◌∙◌, arith, append_assoc, append-nil, nat_eq, if◌then◌else◌}
+use Rattle.std.proofs.Common.{◌≡◌, ℕ, suc, ◌+◌, ◌≤◌, List, [], ◌∷◌, ◌++◌, Option, Some, None, true, drop, length, refl, sym, ap, ◌∙◌, arith, append_assoc, append-nil, nat_eq, if◌then◌else◌}
 use Rattle.std.proofs.Math.ListN.{drop_of_length-le}
-use Rattle.std.proofs.lemmas.Slice.Eq.{bytes_eq-Decides}
-use Rattle.waveforms.specs.Waves.{changes_text, step_text, tick_text, value_text, values_text}
+use Rattle.waveforms.specs.Signals.{Shown}
+use Rattle.waveforms.specs.Waves.{changes_text, is_same_value, line_changes_text, line_value_text, step_text, value_text, values_text, with_tick}
 
 -- a text, a line, and what comes behind it
 joined : (text line more rest : List ℕ) → rest ≡ line ++ more → (text ++ line) ++ more ≡ text ++ rest
@@ -44,7 +44,33 @@ module _ (text vs ws : List ℕ) (s : ℕ) where
   pub new_over : length ws ≤ s → text ++ changes_text s (drop s vs) (drop s ws) ≡ text
   new_over over = ap (λ v. text ++ v) (ap (changes_text s (drop s vs)) (drop_of_length-le ws over) ∙ no_changes s (drop s vs)) ∙ append-nil text
 
--- nothing is written where no value has changed
+-- Changes of lines
 
-pub step_without : (n : ℕ) (vs : List ℕ) → step_text n vs vs ≡ []
-step_without n vs = ap (λ b. if b then [] else tick_text n ++ changes_text 0 vs vs) ((bytes_eq-Decides vs vs).1 refl)
+no_line_changes : (s : ℕ) (vs : List (Option ℕ)) → line_changes_text s vs [] ≡ []
+no_line_changes s [] = refl
+no_line_changes s (v ∷ vs) = refl
+
+pub new_lines_over : (text : List ℕ) (vs ws : List (Option ℕ)) (s i : ℕ) → length ws ≤ i → text ++ line_changes_text s (drop i vs) (drop i ws) ≡ text
+new_lines_over text vs ws s i over =
+    ap (λ v. text ++ v) (ap (line_changes_text s (drop i vs)) (drop_of_length-le ws over) ∙ no_line_changes s (drop i vs)) ∙ append-nil text
+
+-- Steps
+
+same_value : (v : ℕ) → nat_eq v v ≡ true
+same_value v = grind arith
+
+is_same : (v : Option ℕ) → is_same_value v v ≡ true
+is_same None = refl
+is_same (Some v) = same_value v
+
+unchanged : (s : ℕ) (vs : List ℕ) → changes_text s vs vs ≡ []
+unchanged s [] = refl
+unchanged s (v ∷ vs) = ap (λ b. (if b then [] else value_text s v) ++ changes_text (suc s) vs vs) (same_value v) ∙ unchanged (suc s) vs
+
+lines_unchanged : (s : ℕ) (vs : List (Option ℕ)) → line_changes_text s vs vs ≡ []
+lines_unchanged s [] = refl
+lines_unchanged s (v ∷ vs) = ap (λ b. (if b then [] else line_value_text s v) ++ line_changes_text (suc s) vs vs) (is_same v) ∙ lines_unchanged (suc s) vs
+
+-- nothing is written where no value has changed
+pub step_without : (n : ℕ) (vs : Shown) → step_text n vs vs ≡ []
+step_without n vs = ap (with_tick n) (λ j. unchanged 0 vs.known j ++ lines_unchanged (length vs.known) vs.lines j)

@@ -1,4 +1,4 @@
--- Dumps of images worked by computation: an entry with queue, service and a preemption; a delay and an exception that ends the run; variables; inputs.
+-- Dumps of images worked by computation: an entry with queue, service and a preemption; a delay and an exception that ends the run; variables; inputs; lines.
 use Rattle.std.proofs.Common.{◌≡◌, ℕ, List, [], ◌∷◌, ◌++◌, map, pos, negsuc, ℤ, None, Some, arith, refl}
 use Rattle.std.specs.Prelude.{◌<ℤ◌, codes}
 use Rattle.std.proofs.lemmas.Int.{ints}
@@ -15,11 +15,12 @@ use Rattle.image.specs.declared.subprograms.Kind.{Kind}
 use Rattle.image.specs.declared.subprograms.Kind.TheVariants.{EntryBody, ProtectedProcedure, TaskBody}
 use Rattle.image.specs.declared.subprograms.Subprogram.{Subprogram}
 use Rattle.image.specs.declared.tasks.Task.{Task}
+use Rattle.image.specs.Texts.{names_of}
 use Rattle.machine.specs.Bounds.{IsBound, at_most}
 use Rattle.machine.specs.declared.bound.Cut.TheVariants.{Time}
 use Rattle.waveforms.specs.Scopes.{Scopes, Variable}
 use Rattle.waveforms.specs.TimeWaves.{time_waves_text}
-use Rattle.waveforms.specs.Waves.{declarations_text, preamble, signal_code, waves_text}
+use Rattle.waveforms.specs.Waves.{declarations_text, label_name, preamble, signal_code, waves_text}
 use Rattle.waveforms.specs.declared.axis.Axis.TheVariants as axes
 
 abbrev at : ℕ → Operation → Instr
@@ -62,12 +63,14 @@ served_waves : waves_text served (named (codes "DOOR")) [] (at_most 100)
     ++ codes "$scope module CONS $end\n$var wire 3 \" state $end\n$var wire 8 # priority $end\n$upscope $end\n"
     ++ codes "$scope module MAIN $end\n$var wire 3 $ state $end\n$var wire 8 % priority $end\n$upscope $end\n"
     ++ codes "$scope module DOOR $end\n$var wire 8 & inside $end\n$var wire 8 ' queued $end\n$upscope $end\n"
+    ++ codes "$scope module lines $end\n$var integer 64 ( \\CONS.got $end\n$upscope $end\n"
     ++ codes "$upscope $end\n$enddefinitions $end\n"
-    ++ codes "#0\n$dumpvars\nb0 !\nb1 \"\nb1010 #\nb0 $\nb101 %\nb0 &\nb0 '\n$end\n"
+    ++ codes "#0\n$dumpvars\nb0 !\nb1 \"\nb1010 #\nb0 $\nb101 %\nb0 &\nb0 '\nbx (\n$end\n"
     ++ codes "#1\nb11 \"\nb1 $\nb1 '\n"
     ++ codes "#2\nb1010 %\nb10 &\n"
     ++ codes "#5\nb100 \"\nb0 '\n"
     ++ codes "#6\nb1 \"\nb0 $\nb101 %\nb0 &\n"
+    ++ codes "#8\nb111 (\n"
     ++ codes "#9\nb101 \"\nb1 $\n"
     ++ codes "#10\nb101 $\n"
     ++ codes "#11\n$comment ended at 0\n$end\n"
@@ -120,7 +123,7 @@ alone_timed = refl
 -- Over virtual time: it sleeps from 0 to 500, and is left there by the exception, or runs where the limit cuts it
 
 alone_in_time : time_waves_text alone none [] (at_most 100)
-    ≡ declarations_text axes.Time none [] alone
+    ≡ declarations_text axes.Time none [] [] alone
     ++ codes "#0\n$dumpvars\nb0 !\nb10 \"\nb101 #\nb0 $\nb0 %\n$end\n"
     ++ codes "#500\nb111110100 !\nb110 \"\n"
     ++ codes "$comment unhandled CONSTRAINT_ERROR in MAIN at 500\n$end\n"
@@ -128,7 +131,7 @@ unfolding digits
 alone_in_time = refl
 
 alone_cut_in_time : time_waves_text alone none [] (at_most 3)
-    ≡ declarations_text axes.Time none [] alone
+    ≡ declarations_text axes.Time none [] [] alone
     ++ codes "#0\n$dumpvars\nb0 !\nb10 \"\nb101 #\nb0 $\nb0 %\n$end\n"
     ++ codes "#500\nb111110100 !\nb1 \"\n"
     ++ codes "$comment step limit at 500\n$end\n"
@@ -137,7 +140,7 @@ alone_cut_in_time = refl
 
 -- of the time 499 there is the first instant alone, which the cut leaves before its end
 alone_timed_in_time : time_waves_text alone none [] (record { steps = 1; cut = Time })
-    ≡ declarations_text axes.Time none [] alone ++ codes "#0\n$dumpvars\nb0 !\nb1 \"\nb101 #\nb0 $\nb0 %\n$end\n" ++ codes "$comment time limit at 0\n$end\n"
+    ≡ declarations_text axes.Time none [] [] alone ++ codes "#0\n$dumpvars\nb0 !\nb1 \"\nb101 #\nb0 $\nb0 %\n$end\n" ++ codes "$comment time limit at 0\n$end\n"
 unfolding digits
 alone_timed_in_time = refl
 
@@ -152,9 +155,9 @@ waits =
     ∷ at 0 (op.Push (pos 500)) ∷ at 1 op.DelayUntil ∷ at 0 (op.ProtectedCall 0) ∷ at 0 op.Return ∷ [])
 
 waits_in_time : time_waves_text waits (named (codes "DOOR")) [] (at_most 100)
-    ≡ declarations_text axes.Time (named (codes "DOOR")) [] waits
-    ++ codes "#0\n$dumpvars\nb0 !\nb11 \"\nb1010 #\nb10 $\nb101 %\nb0 &\nb1 '\n$end\n"
-    ++ codes "#500\nb111110100 !\nb101 \"\nb101 $\nb0 '\n"
+    ≡ declarations_text axes.Time (named (codes "DOOR")) [] (record { task = 0; label = codes "got" } ∷ []) waits
+    ++ codes "#0\n$dumpvars\nb0 !\nb11 \"\nb1010 #\nb10 $\nb101 %\nb0 &\nb1 '\nbx (\n$end\n"
+    ++ codes "#500\nb111110100 !\nb101 \"\nb101 $\nb0 '\nb111 (\n"
     ++ codes "$comment ended at 500\n$end\n"
 unfolding digits
 waits_in_time = refl
@@ -252,6 +255,70 @@ inputs_in_time : time_waves_text alone none two_channels (at_most 100)
     ++ codes "$comment unhandled CONSTRAINT_ERROR in MAIN at 500\n$end\n"
 unfolding digits
 inputs_in_time = refl
+
+-- Lines: CONS puts 7 and -1 under the first label and 9 under the second, and then MAIN puts 7 under the first label twice
+
+abbrev says : Sections
+says =
+    record (image_of [] (sub TaskBody 7 1 ∷ sub TaskBody 12 1 ∷ []) (task (codes "CONS") 10 0 ∷ task (codes "MAIN") 5 1 ∷ [])
+    (at 0 (op.Push (pos 7)) ∷ at 1 (op.PutLine 0) ∷ at 0 (op.Push (negsuc 0)) ∷ at 1 (op.PutLine 0) ∷ at 0 (op.Push (pos 9)) ∷ at 1 (op.PutLine 1) ∷ at 0 op.Return
+    ∷ at 0 (op.Push (pos 7)) ∷ at 1 (op.PutLine 0) ∷ at 0 (op.Push (pos 7)) ∷ at 1 (op.PutLine 0) ∷ at 0 op.Return ∷ [])) { labels = codes "got" ∷ codes "it(1)" ∷ [] }
+
+abbrev two_tasks : List ℕ
+two_tasks =
+    codes "$var wire 64 ! time $end\n"
+    ++ codes "$scope module CONS $end\n$var wire 3 \" state $end\n$var wire 8 # priority $end\n$upscope $end\n"
+    ++ codes "$scope module MAIN $end\n$var wire 3 $ state $end\n$var wire 8 % priority $end\n$upscope $end\n"
+
+abbrev lines_of_cons : List ℕ
+lines_of_cons = codes "$scope module lines $end\n$var integer 64 & \\CONS.got $end\n$var integer 64 ' \\CONS.it(1) $end\n"
+
+says_waves : waves_text says none [] (at_most 100)
+    ≡ preamble axes.Steps
+    ++ two_tasks
+    ++ lines_of_cons
+    ++ codes "$var integer 64 ( \\MAIN.got $end\n$upscope $end\n$upscope $end\n$enddefinitions $end\n"
+    ++ codes "#0\n$dumpvars\nb0 !\nb1 \"\nb1010 #\nb0 $\nb101 %\nbx &\nbx '\nbx (\n$end\n"
+    ++ codes "#2\nb111 &\n"
+    ++ codes "#4\nb" ++ ones ++ codes " &\n"
+    ++ codes "#6\nb1001 '\n"
+    ++ codes "#7\nb101 \"\nb1 $\n"
+    ++ codes "#9\nb111 (\n"
+    ++ codes "#12\nb101 $\n"
+    ++ codes "#13\n$comment ended at 0\n$end\n"
+unfolding digits
+says_waves = refl
+
+-- MAIN has no signal where the limit cuts the run before its first line
+says_cut : waves_text says none [] (at_most 8)
+    ≡ preamble axes.Steps
+    ++ two_tasks
+    ++ lines_of_cons
+    ++ codes "$upscope $end\n$upscope $end\n$enddefinitions $end\n"
+    ++ codes "#0\n$dumpvars\nb0 !\nb1 \"\nb1010 #\nb0 $\nb101 %\nbx &\nbx '\n$end\n"
+    ++ codes "#2\nb111 &\n"
+    ++ codes "#4\nb" ++ ones ++ codes " &\n"
+    ++ codes "#6\nb1001 '\n"
+    ++ codes "#7\nb101 \"\nb1 $\n"
+    ++ codes "#9\n$comment step limit at 0\n$end\n"
+unfolding digits
+says_cut = refl
+
+-- the one instant has the values that were put last
+says_in_time : time_waves_text says none [] (at_most 100)
+    ≡ preamble axes.Time
+    ++ two_tasks
+    ++ lines_of_cons
+    ++ codes "$var integer 64 ( \\MAIN.got $end\n$upscope $end\n$upscope $end\n$enddefinitions $end\n"
+    ++ codes "#0\n$dumpvars\nb0 !\nb101 \"\nb1010 #\nb101 $\nb101 %\nb" ++ ones ++ codes " &\nb1001 '\nb111 (\n$end\n"
+    ++ codes "$comment ended at 0\n$end\n"
+unfolding digits
+says_in_time = refl
+
+-- a line of the handler of the interrupt of channel 2, where there are two tasks
+handler_named : label_name (names_of says).task (record { task = 4; label = codes "got" }) ≡ codes "INTERRUPT_2.got"
+unfolding digits
+handler_named = refl
 
 -- the codes of the last signal with one character, of the first and the last with two, and of the greatest number
 codes_of_signals : map signal_code (93 ∷ 94 ∷ 8835 ∷ 8836 ∷ []) ≡ codes "~" ∷ codes "\"!" ∷ codes "~~" ∷ codes "\"!!" ∷ []

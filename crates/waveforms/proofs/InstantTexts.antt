@@ -1,5 +1,5 @@
 -- The instants that steps end, and their texts.
-use Rattle.std.proofs.Common.{◌≡◌, ℕ, zero, suc, ◌+◌, List, [], ◌∷◌, ◌++◌, Option, Some, refl, sym, ap, ◌∙◌, arith, append_assoc, append-nil, if◌then◌else◌, ℤ, Bool, false, true}
+use Rattle.std.proofs.Common.{◌≡◌, ℕ, zero, suc, ◌+◌, List, [], ◌∷◌, ◌++◌, Option, Some, refl, sym, ap, ◌∙◌, arith, append_assoc, append-nil, if◌then◌else◌, ℤ, false}
 use Rattle.std.specs.Prelude.{int_lt, unsigned_abs}
 use Rattle.std.proofs.lemmas.Int.{ints}
 use Rattle.base.specs.declared.schedule.ScheduleLine.{ScheduleLine}
@@ -8,22 +8,23 @@ use Rattle.image.specs.Code.{CodeWorld, code}
 use Rattle.image.specs.Sections.{Sections}
 use Rattle.image_laws.specs.Laws.{OutcomeStays}
 use Rattle.waveforms.specs.Instants.{ended, ended_by, world_before}
-use Rattle.waveforms.specs.Signals.{values}
+use Rattle.waveforms.specs.Lines.{TaskLabel}
+use Rattle.waveforms.specs.Signals.{Shown, values}
 use Rattle.waveforms.specs.Scopes.{Scopes}
 use Rattle.waveforms.specs.TimeWaves.{instant_text, instants_text}
 use Rattle.waveforms.specs.LastValues.{dumped_after}
 
 -- instants, and then more of them
 
-pub dumped_more : (scopes : Scopes) (schedule : List ScheduleLine) (dumped : Option (List ℕ)) (ks more : List CodeWorld) → dumped_after scopes schedule dumped (ks ++ more) ≡ dumped_after scopes schedule (dumped_after scopes schedule dumped ks) more
-dumped_more scopes schedule dumped [] more = refl
-dumped_more scopes schedule dumped (w ∷ ws) more = dumped_more scopes schedule (Some (values scopes schedule w)) ws more
+pub dumped_more : (scopes : Scopes) (schedule : List ScheduleLine) (labels : List TaskLabel) (dumped : Option Shown) (ks more : List CodeWorld) → dumped_after scopes schedule labels dumped (ks ++ more) ≡ dumped_after scopes schedule labels (dumped_after scopes schedule labels dumped ks) more
+dumped_more scopes schedule labels dumped [] more = refl
+dumped_more scopes schedule labels dumped (w ∷ ws) more = dumped_more scopes schedule labels (Some (values scopes schedule labels w)) ws more
 
-pub text_more : (scopes : Scopes) (schedule : List ScheduleLine) (dumped : Option (List ℕ)) (ks more : List CodeWorld) → instants_text scopes schedule dumped (ks ++ more) ≡ instants_text scopes schedule dumped ks ++ instants_text scopes schedule (dumped_after scopes schedule dumped ks) more
-text_more scopes schedule dumped [] more = refl
-text_more scopes schedule dumped (w ∷ ws) more =
-    let first = instant_text (unsigned_abs w.kernel.now) dumped (values scopes schedule w) in
-    ap (λ v. first ++ v) (text_more scopes schedule (Some (values scopes schedule w)) ws more) ∙ sym (append_assoc first (instants_text scopes schedule (Some (values scopes schedule w)) ws) (instants_text scopes schedule (dumped_after scopes schedule (Some (values scopes schedule w)) ws) more))
+pub text_more : (scopes : Scopes) (schedule : List ScheduleLine) (labels : List TaskLabel) (dumped : Option Shown) (ks more : List CodeWorld) → instants_text scopes schedule labels dumped (ks ++ more) ≡ instants_text scopes schedule labels dumped ks ++ instants_text scopes schedule labels (dumped_after scopes schedule labels dumped ks) more
+text_more scopes schedule labels dumped [] more = refl
+text_more scopes schedule labels dumped (w ∷ ws) more =
+    let first = instant_text (unsigned_abs w.kernel.now) dumped (values scopes schedule labels w) in
+    ap (λ v. first ++ v) (text_more scopes schedule labels (Some (values scopes schedule labels w)) ws more) ∙ sym (append_assoc first (instants_text scopes schedule labels (Some (values scopes schedule labels w)) ws) (instants_text scopes schedule labels (dumped_after scopes schedule labels (Some (values scopes schedule labels w)) ws) more))
 
 -- a clock that stands still ends no instant
 
@@ -54,10 +55,3 @@ module _ (i : Sections) (schedule : List ScheduleLine) where
       ∙ ap (λ (w : CodeWorld). ended_by (code i schedule n).kernel.now w) later
       ∙ none_ended (code i schedule n) in
       ap (ended i schedule) e ∙ ap (λ v. ended i schedule (n + j) ++ v) last ∙ append-nil (ended i schedule (n + j)) ∙ ended_stay stays n o is j
-
--- the text of the instant that a step has ended which leads past this time
-pub ended_text : (scopes : Scopes) (schedule : List ScheduleLine) (dumped : Option (List ℕ)) (time : ℤ) (w : CodeWorld) → int_lt time w.kernel.now ≡ true
-    → instants_text scopes schedule dumped (ended_by time w) ≡ instant_text (unsigned_abs time) dumped (values scopes schedule (world_before time w))
-ended_text scopes schedule dumped time w later =
-    ap (λ (b : Bool). instants_text scopes schedule dumped (if b then world_before time w ∷ [] else [])) later
-    ∙ append-nil (instant_text (unsigned_abs time) dumped (values scopes schedule (world_before time w)))

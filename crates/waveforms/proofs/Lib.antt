@@ -8,6 +8,8 @@ mod Dumped
 mod Examples
 mod HeldValues
 mod InstantTexts
+mod Labels
+mod Noted
 mod Parts
 mod Standing
 mod TimeWhole

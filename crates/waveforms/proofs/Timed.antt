@@ -3,135 +3,150 @@ use Rattle.std.proofs.Common.{◌≡◌, ◌⊎◌, ℕ, ℤ, suc, ◌+◌, ◌-
 use Rattle.std.specs.Prelude.{int_lt, unsigned_abs}
 use Rattle.std.specs.Io.KnownBytes.{Appends}
 use Rattle.base.specs.declared.schedule.ScheduleLine.{ScheduleLine}
-use Rattle.kernel.specs.State.{Line, Outcome as KernelOutcome}
+use Rattle.kernel.specs.State.{Outcome as KernelOutcome}
 use Rattle.image.specs.Code.{CodeWorld, code}
 use Rattle.image.specs.Sections.{Sections}
 use Rattle.image_laws.specs.Laws.{OutcomeStays}
 use Rattle.tasking.specs.Held.{kernel_of}
 use Rattle.execution.specs.Held.{HeldWorld, world_of}
+use Rattle.execution.specs.declared.line.Line.{Line as NumberedLine}
 use Rattle.machine.specs.Stands.{EndsBy, HoldsWorld}
 use Rattle.machine.specs.Written.{AppendsBeginning}
-use Rattle.machine.specs.declared.reports.Event.{Event}
 use Rattle.machine.specs.declared.reports.Outcome.{Outcome}
 use Rattle.machine.proofs.Runs.{appends_nothing, appends_two, beginning_after, beginning_of_more}
 use Rattle.waveforms.specs.Instants.{ended, ended_by, instants, world_before}
-use Rattle.waveforms.specs.Signals.{values}
+use Rattle.waveforms.specs.Lines.{TaskLabel, line_values}
+use Rattle.waveforms.specs.Signals.{Shown, values}
 use Rattle.waveforms.specs.Scopes.{Scopes}
 use Rattle.waveforms.specs.TimeWaves.{instant_text, instants_text}
-use Rattle.waveforms.specs.LastValues.{dumped_after}
-use Rattle.waveforms.proofs.HeldValues.{values_beside, values_held}
+use Rattle.waveforms.specs.LastValues.{HeldRows, dumped_after, ended_text, ended_values, last_values, shown_by}
+use Rattle.waveforms.proofs.HeldValues.{before_held, shown_held}
 use Rattle.waveforms.proofs.InstantTexts.{ended_grow, ended_stay, text_more, dumped_more}
-use Rattle.waveforms.proofs.Standing.{StepsBy, ends_here, stands_on}
+use Rattle.waveforms.proofs.Noted.{Noted, noted_kept, noted_on, with_note}
+use Rattle.waveforms.proofs.Standing.{StepsBy, ends_here, lines_on, stands_on}
 
--- An instant's text, and the values written then, are the same whatever lines were written.
+-- The text of an instant, and the values that were written last, by whether a step ends it.
 
-module _ (scopes : Scopes) (schedule : List ScheduleLine) where
-  at_end : (time : ℤ) (w : CodeWorld) (lines : List Line) → values scopes schedule (world_before time (record { kernel = record w.kernel { lines = lines }; rest = w.rest })) ≡ values scopes schedule (world_before time w)
-  at_end time w lines = values_beside scopes schedule (world_before time w) lines
+module _ (scopes : Scopes) (schedule : List ScheduleLine) (labels : List TaskLabel) (dumped : Option Shown) (w : CodeWorld) where
+  text_by : (is_ended : Bool) → instants_text scopes schedule labels dumped (if is_ended then w ∷ [] else []) ≡ (if is_ended then instant_text (unsigned_abs w.kernel.now) dumped (values scopes schedule labels w) else [])
+  text_by true = append-nil (instant_text (unsigned_abs w.kernel.now) dumped (values scopes schedule labels w))
+  text_by false = refl
 
-  text_beside : (is_ended : Bool) (dumped : Option (List ℕ)) (time : ℤ) (w : CodeWorld) (lines : List Line) →
-      instants_text scopes schedule dumped (if is_ended then world_before time (record { kernel = record w.kernel { lines = lines }; rest = w.rest }) ∷ [] else [])
-      ≡ instants_text scopes schedule dumped (if is_ended then world_before time w ∷ [] else [])
-  text_beside true dumped time w lines = ap (λ v. instant_text (unsigned_abs time) dumped v ++ []) (at_end time w lines)
-  text_beside false dumped time w lines = refl
+  dumped_by : (is_ended : Bool) → dumped_after scopes schedule labels dumped (if is_ended then w ∷ [] else []) ≡ (if is_ended then Some (values scopes schedule labels w) else dumped)
+  dumped_by true = refl
+  dumped_by false = refl
 
-  dumped_beside : (is_ended : Bool) (dumped : Option (List ℕ)) (time : ℤ) (w : CodeWorld) (lines : List Line) →
-      dumped_after scopes schedule dumped (if is_ended then world_before time (record { kernel = record w.kernel { lines = lines }; rest = w.rest }) ∷ [] else [])
-      ≡ dumped_after scopes schedule dumped (if is_ended then world_before time w ∷ [] else [])
-  dumped_beside true dumped time w lines = ap (λ v. Some v) (at_end time w lines)
-  dumped_beside false dumped time w lines = refl
+module _ (scopes : Scopes) (schedule : List ScheduleLine) (labels : List TaskLabel) (time : ℤ) (h : HeldWorld) (w : CodeWorld) (stands : HoldsWorld h w)
+    (rows : HeldRows) (read : rows.schedule ≡ schedule) (current : rows.lines.current ≡ line_values labels w.kernel.lines) where
+  later : int_lt time w.kernel.now ≡ int_lt time (kernel_of h.tasking).now
+  later = ap (λ (v : CodeWorld). int_lt time v.kernel.now) stands
 
-module _ (scopes : Scopes) (schedule : List ScheduleLine) (time : ℤ) (dumped : Option (List ℕ)) (h : HeldWorld) (w : CodeWorld) (stands : HoldsWorld h w) where
-  abbrev is_ended : Bool
-  is_ended = int_lt time (kernel_of h.tasking).now
+  shown : values scopes schedule labels (world_before time w) ≡ shown_by scopes rows (world_before time (world_of h))
+  shown = sym (before_held scopes schedule labels h w stands rows read current time)
 
-  text_held : instants_text scopes schedule dumped (ended_by time w) ≡ instants_text scopes schedule dumped (ended_by time (world_of h))
-  text_held = ap (λ (v : CodeWorld). instants_text scopes schedule dumped (ended_by time v)) stands ∙ text_beside scopes schedule is_ended dumped time (world_of h) w.kernel.lines
+  text_held : instants_text scopes schedule labels (last_values rows) (ended_by time w) ≡ ended_text scopes rows time (world_of h)
+  text_held =
+      text_by scopes schedule labels (last_values rows) (world_before time w) (int_lt time w.kernel.now)
+      ∙ (λ j. if later j then instant_text (unsigned_abs time) (last_values rows) (shown j) else [])
 
-  dumped_held : dumped_after scopes schedule dumped (ended_by time w) ≡ dumped_after scopes schedule dumped (ended_by time (world_of h))
-  dumped_held = ap (λ (v : CodeWorld). dumped_after scopes schedule dumped (ended_by time v)) stands ∙ dumped_beside scopes schedule is_ended dumped time (world_of h) w.kernel.lines
+  dumped_held : dumped_after scopes schedule labels (last_values rows) (ended_by time w) ≡ ended_values scopes rows time (world_of h)
+  dumped_held =
+      dumped_by scopes schedule labels (last_values rows) (world_before time w) (int_lt time w.kernel.now)
+      ∙ (λ j. if later j then Some (shown j) else last_values rows)
 
--- after n steps: the machine stands for the world, these values were written last, and the instants that these steps end are written
-pub record Timed (scopes : Scopes) (i : Sections) (schedule : List ScheduleLine) (n : ℕ) (h : HeldWorld) (dumped : Option (List ℕ)) (old new : Option (List ℕ)) (before after : ℕ) : Type 0 where
+-- after n steps: the machine represents the world, rows have the values of its lines and those that were written last, and the instants that these steps end are
+-- written
+pub record Timed (scopes : Scopes) (i : Sections) (schedule : List ScheduleLine) (labels : List TaskLabel) (n : ℕ) (h : HeldWorld) (rows : HeldRows) (old new : Option (List ℕ)) (before after : ℕ) : Type 0 where
   pub image : h.image ≡ i
   pub schedule_is : h.schedule ≡ schedule
   pub stands : HoldsWorld h (code i schedule n)
-  pub dumped_is : dumped ≡ dumped_after scopes schedule None (ended i schedule n)
-  pub written : Appends old new (instants_text scopes schedule None (ended i schedule n))
+  pub noted : Noted i schedule labels n rows
+  pub dumped_is : last_values rows ≡ dumped_after scopes schedule labels None (ended i schedule n)
+  pub written : Appends old new (instants_text scopes schedule labels None (ended i schedule n))
   pub kept : after ≡ before
 
-pub timed_nothing : (scopes : Scopes) (h : HeldWorld) (dumped : Option (List ℕ)) (old : Option (List ℕ)) (before : ℕ) → HoldsWorld h (code h.image h.schedule 0) → dumped ≡ None →
-    Timed scopes h.image h.schedule 0 h dumped old old before before
-timed_nothing scopes h dumped old before stands none =
-    record { image = refl; schedule_is = refl; stands = stands; dumped_is = none; written = appends_nothing old; kept = refl }
+pub timed_nothing : (scopes : Scopes) (h : HeldWorld) (rows : HeldRows) (old : Option (List ℕ)) (before : ℕ) → HoldsWorld h (code h.image h.schedule 0) → Noted h.image h.schedule rows.lines.labels 0 rows → last_values rows ≡ None →
+    Timed scopes h.image h.schedule rows.lines.labels 0 h rows old old before before
+timed_nothing scopes h rows old before stands noted none =
+    record { image = refl; schedule_is = refl; stands = stands; noted = noted; dumped_is = none; written = appends_nothing old; kept = refl }
 
-module _ (scopes : Scopes) (i : Sections) (schedule : List ScheduleLine) (n : ℕ) (h : HeldWorld) (dumped : Option (List ℕ)) (old new : Option (List ℕ)) (before after : ℕ) (r : Timed scopes i schedule n h dumped old new before after) where
-  module _ (next : HeldWorld) (shown : Event) (steps : StepsBy h next shown) (time : ℤ) (time_is : time ≡ (kernel_of h.tasking).now) (later : Option (List ℕ)) where
-    -- the instant that the step ends, if it ends one
-    abbrev piece : List CodeWorld
-    piece = ended_by time (world_of next)
+module _ (scopes : Scopes) (i : Sections) (schedule : List ScheduleLine) (labels : List TaskLabel) (n : ℕ) (h : HeldWorld) (rows : HeldRows) (old new : Option (List ℕ)) (before after : ℕ) (r : Timed scopes i schedule labels n h rows old new before after) where
+  module _ (next : HeldWorld) (line : Option NumberedLine) (steps : StepsBy h next line) (time : ℤ) (time_is : time ≡ (kernel_of h.tasking).now)
+      (noted_rows : HeldRows) (same_rows : noted_rows ≡ with_note line rows) (later : Option (List ℕ)) where
+    abbrev text : List ℕ
+    text = ended_text scopes noted_rows time (world_of next)
 
     stepped : HoldsWorld next (code i schedule (suc n))
-    stepped = stands_on i schedule n h next shown r.image r.schedule_is r.stands steps
+    stepped = stands_on i schedule n h next line r.image r.schedule_is r.stands steps
+
+    noted_more : Noted i schedule labels (suc n) noted_rows
+    noted_more = noted_on i schedule labels n rows r.noted line (lines_on i schedule n h next line r.image r.schedule_is r.stands steps) noted_rows same_rows
+
+    dumped_so_far : dumped_after scopes schedule labels None (ended i schedule n) ≡ last_values noted_rows
+    dumped_so_far = sym (ap last_values same_rows ∙ r.dumped_is)
 
     one_more : ended i schedule (suc n) ≡ ended i schedule n ++ ended_by time (code i schedule (suc n))
     one_more =
         ap (λ t. ended i schedule n ++ ended_by t (code i schedule (suc n))) (ap (λ (w : CodeWorld). w.kernel.now) r.stands ∙ sym time_is)
 
-    text_on : instants_text scopes schedule None (ended i schedule (suc n)) ≡ instants_text scopes schedule None (ended i schedule n) ++ instants_text scopes schedule dumped piece
+    text_on : instants_text scopes schedule labels None (ended i schedule (suc n)) ≡ instants_text scopes schedule labels None (ended i schedule n) ++ text
     text_on =
-        ap (instants_text scopes schedule None) one_more
-        ∙ text_more scopes schedule None (ended i schedule n) (ended_by time (code i schedule (suc n)))
-        ∙ ap (λ t. instants_text scopes schedule None (ended i schedule n) ++ instants_text scopes schedule t (ended_by time (code i schedule (suc n)))) (sym r.dumped_is)
-        ∙ ap (λ v. instants_text scopes schedule None (ended i schedule n) ++ v) (text_held scopes schedule time dumped next (code i schedule (suc n)) stepped)
+        ap (instants_text scopes schedule labels None) one_more
+        ∙ text_more scopes schedule labels None (ended i schedule n) (ended_by time (code i schedule (suc n)))
+        ∙ ap (λ t. instants_text scopes schedule labels None (ended i schedule n) ++ instants_text scopes schedule labels t (ended_by time (code i schedule (suc n)))) dumped_so_far
+        ∙ ap (λ v. instants_text scopes schedule labels None (ended i schedule n) ++ v)
+        (text_held scopes schedule labels time next (code i schedule (suc n)) stepped noted_rows noted_more.schedule_is noted_more.current)
 
-    dumped_on : dumped_after scopes schedule None (ended i schedule (suc n)) ≡ dumped_after scopes schedule dumped piece
+    dumped_on : dumped_after scopes schedule labels None (ended i schedule (suc n)) ≡ ended_values scopes noted_rows time (world_of next)
     dumped_on =
-        ap (dumped_after scopes schedule None) one_more
-        ∙ dumped_more scopes schedule None (ended i schedule n) (ended_by time (code i schedule (suc n)))
-        ∙ ap (λ t. dumped_after scopes schedule t (ended_by time (code i schedule (suc n)))) (sym r.dumped_is)
-        ∙ dumped_held scopes schedule time dumped next (code i schedule (suc n)) stepped
+        ap (dumped_after scopes schedule labels None) one_more
+        ∙ dumped_more scopes schedule labels None (ended i schedule n) (ended_by time (code i schedule (suc n)))
+        ∙ ap (λ t. dumped_after scopes schedule labels t (ended_by time (code i schedule (suc n)))) dumped_so_far
+        ∙ dumped_held scopes schedule labels time next (code i schedule (suc n)) stepped noted_rows noted_more.schedule_is noted_more.current
 
-    pub timed_on : next.image ≡ h.image → next.schedule ≡ h.schedule → (later_dumped : Option (List ℕ)) (count : ℕ) → later_dumped ≡ dumped_after scopes schedule dumped piece → Appends new later (instants_text scopes schedule dumped piece) → count ≡ after →
-        Timed scopes i schedule (n + 1) next later_dumped old later before count
-    timed_on same_image same_schedule later_dumped count dumped_so app same =
+    pub timed_on : next.image ≡ h.image → next.schedule ≡ h.schedule → (ended_rows : HeldRows) → ended_rows.lines.image ≡ noted_rows.lines.image → ended_rows.schedule ≡ noted_rows.schedule →
+        ended_rows.lines.labels ≡ noted_rows.lines.labels → ended_rows.lines.current ≡ noted_rows.lines.current → last_values ended_rows ≡ ended_values scopes noted_rows time (world_of next) →
+        (count : ℕ) → Appends new later text → count ≡ after → Timed scopes i schedule labels (n + 1) next ended_rows old later before count
+    timed_on same_image same_schedule ended_rows rows_image read rows_labels rows_current dumped_so count app same =
         let at : n + 1 ≡ suc n = omega arith in
-        subst (λ m. Timed scopes i schedule m next later_dumped old later before count) (sym at)
+        subst (λ m. Timed scopes i schedule labels m next ended_rows old later before count) (sym at)
         (record {
           image = same_image ∙ r.image;
           schedule_is = same_schedule ∙ r.schedule_is;
           stands = stepped;
+          noted = noted_kept i schedule labels (suc n) noted_rows noted_more ended_rows rows_image read rows_labels rows_current;
           dumped_is = dumped_so ∙ sym dumped_on;
-          written = subst (Appends old later) (sym text_on) (appends_two old new later (instants_text scopes schedule None (ended i schedule n)) (instants_text scopes schedule dumped piece) r.written app);
+          written = subst (Appends old later) (sym text_on) (appends_two old new later (instants_text scopes schedule labels None (ended i schedule n)) text r.written app);
           kept = same ∙ r.kept;
         })
 
     -- an instant that could not be written: what is written is a beginning of all instants that are ended
-    pub broken_instant : (limit : ℕ) → n + 1 ≤ limit → AppendsBeginning new later (instants_text scopes schedule dumped piece) → AppendsBeginning old later (instants_text scopes schedule None (ended i schedule limit))
+    pub broken_instant : (limit : ℕ) → n + 1 ≤ limit → AppendsBeginning new later text → AppendsBeginning old later (instants_text scopes schedule labels None (ended i schedule limit))
     broken_instant limit le begun =
         let rest = ended_grow i schedule (suc n) (limit - suc n) in
         let end_ : suc n + (limit - suc n) ≡ limit = omega (arith, le) in
-        let more = instants_text scopes schedule (dumped_after scopes schedule None (ended i schedule (suc n))) rest.0 in
-        let whole : instants_text scopes schedule None (ended i schedule limit) ≡ (instants_text scopes schedule None (ended i schedule n) ++ instants_text scopes schedule dumped piece) ++ more =
-        ap (λ m. instants_text scopes schedule None (ended i schedule m)) (sym end_)
-        ∙ ap (instants_text scopes schedule None) rest.1
-        ∙ text_more scopes schedule None (ended i schedule (suc n)) rest.0
+        let more = instants_text scopes schedule labels (dumped_after scopes schedule labels None (ended i schedule (suc n))) rest.0 in
+        let whole : instants_text scopes schedule labels None (ended i schedule limit) ≡ (instants_text scopes schedule labels None (ended i schedule n) ++ text) ++ more =
+        ap (λ m. instants_text scopes schedule labels None (ended i schedule m)) (sym end_)
+        ∙ ap (instants_text scopes schedule labels None) rest.1
+        ∙ text_more scopes schedule labels None (ended i schedule (suc n)) rest.0
         ∙ ap (λ v. v ++ more) text_on in
         subst (AppendsBeginning old later) (sym whole)
-        (beginning_of_more old later (instants_text scopes schedule None (ended i schedule n) ++ instants_text scopes schedule dumped piece) more
-        (beginning_after old new later (instants_text scopes schedule None (ended i schedule n)) (instants_text scopes schedule dumped piece) r.written begun))
+        (beginning_of_more old later (instants_text scopes schedule labels None (ended i schedule n) ++ text) more
+        (beginning_after old new later (instants_text scopes schedule labels None (ended i schedule n)) text r.written begun))
 
 -- what is so up to the outcome, or at the limit, is so at the limit
-pub record Over (scopes : Scopes) (i : Sections) (schedule : List ScheduleLine) (limit : ℕ) (h : HeldWorld) (dumped : Option (List ℕ)) (o : Outcome) (old new : Option (List ℕ)) (before after : ℕ) : Type 0 where
+pub record Over (scopes : Scopes) (i : Sections) (schedule : List ScheduleLine) (labels : List TaskLabel) (limit : ℕ) (h : HeldWorld) (rows : HeldRows) (o : Outcome) (old new : Option (List ℕ)) (before after : ℕ) : Type 0 where
   pub stands : HoldsWorld h (code i schedule limit)
-  pub dumped_is : dumped ≡ dumped_after scopes schedule None (ended i schedule limit)
-  pub written : Appends old new (instants_text scopes schedule None (ended i schedule limit))
+  pub current : rows.lines.current ≡ line_values labels (code i schedule limit).kernel.lines
+  pub dumped_is : last_values rows ≡ dumped_after scopes schedule labels None (ended i schedule limit)
+  pub written : Appends old new (instants_text scopes schedule labels None (ended i schedule limit))
   pub ends : EndsBy o (code i schedule limit)
   pub kept : after ≡ before
 
-pub timed_over : OutcomeStays → (scopes : Scopes) (i : Sections) (schedule : List ScheduleLine) (n limit : ℕ) (h : HeldWorld) (dumped : Option (List ℕ)) (old new : Option (List ℕ)) (before after : ℕ) → Timed scopes i schedule n h dumped old new before after →
-    n ≤ limit → (n ≡ limit) ⊎ ((e : KernelOutcome) × ((kernel_of h.tasking).outcome ≡ Some e)) → (o : Outcome) → EndsBy o (world_of h) → Over scopes i schedule limit h dumped o old new before after
-timed_over stays scopes i schedule n limit h dumped old new before after r le why o ends =
+pub timed_over : OutcomeStays → (scopes : Scopes) (i : Sections) (schedule : List ScheduleLine) (labels : List TaskLabel) (n limit : ℕ) (h : HeldWorld) (rows : HeldRows) (old new : Option (List ℕ)) (before after : ℕ) → Timed scopes i schedule labels n h rows old new before after →
+    n ≤ limit → (n ≡ limit) ⊎ ((e : KernelOutcome) × ((kernel_of h.tasking).outcome ≡ Some e)) → (o : Outcome) → EndsBy o (world_of h) → Over scopes i schedule labels limit h rows o old new before after
+timed_over stays scopes i schedule labels n limit h rows old new before after r le why o ends =
     let at : n + (limit - n) ≡ limit = omega (arith, le) in
     let here : EndsBy o (code i schedule n) = ends_here i schedule n h r.stands o ends in
     let over : (e : KernelOutcome) → (kernel_of h.tasking).outcome ≡ Some e → (code i schedule n).kernel.outcome ≡ Some e = λ e is. ap (λ (w : CodeWorld). w.kernel.outcome) r.stands ∙ is in
@@ -145,42 +160,44 @@ timed_over stays scopes i schedule n limit h dumped old new before after r le wh
     why in
     record {
       stands = subst (HoldsWorld h) (sym same.0) r.stands;
-      dumped_is = r.dumped_is ∙ ap (dumped_after scopes schedule None) (sym same.1);
-      written = subst (λ ks. Appends old new (instants_text scopes schedule None ks)) (sym same.1) r.written;
+      current = r.noted.current ∙ ap (λ (w : CodeWorld). line_values labels w.kernel.lines) (sym same.0);
+      dumped_is = r.dumped_is ∙ ap (dumped_after scopes schedule labels None) (sym same.1);
+      written = subst (λ ks. Appends old new (instants_text scopes schedule labels None ks)) (sym same.1) r.written;
       ends = subst (EndsBy o) (sym same.0) here;
       kept = r.kept;
     }
 
 -- the last instant ends with the run
-pub last_instant : (scopes : Scopes) (i : Sections) (schedule : List ScheduleLine) (limit : ℕ) (h : HeldWorld) (dumped : Option (List ℕ)) (time : ℕ) (vs : List ℕ) → HoldsWorld h (code i schedule limit) →
-    dumped ≡ dumped_after scopes schedule None (ended i schedule limit) → time ≡ unsigned_abs (kernel_of h.tasking).now → vs ≡ values scopes schedule (world_of h) →
-    instants_text scopes schedule None (instants i schedule limit) ≡ instants_text scopes schedule None (ended i schedule limit) ++ instant_text time dumped vs
-last_instant scopes i schedule limit h dumped time vs stands dumped_is time_is are =
-    let w = code i schedule limit in
-    let so_far = instants_text scopes schedule None (ended i schedule limit) in
-    let now : unsigned_abs w.kernel.now ≡ time = ap (λ (v : CodeWorld). unsigned_abs v.kernel.now) stands ∙ sym time_is in
-    let values_are : values scopes schedule w ≡ vs = values_held scopes schedule h w stands ∙ sym are in
-    text_more scopes schedule None (ended i schedule limit) (w ∷ [])
-    ∙ ap (λ v. so_far ++ v) (append-nil (instant_text (unsigned_abs w.kernel.now) (dumped_after scopes schedule None (ended i schedule limit)) (values scopes schedule w)))
-    ∙ (λ j. so_far ++ instant_text (now j) (sym dumped_is j) (values_are j))
+module _ (scopes : Scopes) (i : Sections) (schedule : List ScheduleLine) (labels : List TaskLabel) (limit : ℕ) (h : HeldWorld) (rows : HeldRows) (stands : HoldsWorld h (code i schedule limit))
+    (read : rows.schedule ≡ schedule) (current : rows.lines.current ≡ line_values labels (code i schedule limit).kernel.lines)
+    (dumped_is : last_values rows ≡ dumped_after scopes schedule labels None (ended i schedule limit)) where
+  abbrev last_text : List ℕ
+  last_text = instant_text (unsigned_abs (kernel_of h.tasking).now) (last_values rows) (shown_by scopes rows (world_of h))
 
-pub ended_begun : (scopes : Scopes) (i : Sections) (schedule : List ScheduleLine) (limit : ℕ) (old new : Option (List ℕ)) → AppendsBeginning old new (instants_text scopes schedule None (ended i schedule limit)) →
-    AppendsBeginning old new (instants_text scopes schedule None (instants i schedule limit))
-ended_begun scopes i schedule limit old new begun =
+  last_instant : instants_text scopes schedule labels None (instants i schedule limit) ≡ instants_text scopes schedule labels None (ended i schedule limit) ++ last_text
+  last_instant =
+      let w = code i schedule limit in
+      let so_far = instants_text scopes schedule labels None (ended i schedule limit) in
+      let now : unsigned_abs w.kernel.now ≡ unsigned_abs (kernel_of h.tasking).now = ap (λ (v : CodeWorld). unsigned_abs v.kernel.now) stands in
+      let values_are : values scopes schedule labels w ≡ shown_by scopes rows (world_of h) = sym (shown_held scopes schedule labels h w stands rows read current) in
+      text_more scopes schedule labels None (ended i schedule limit) (w ∷ [])
+      ∙ ap (λ v. so_far ++ v) (append-nil (instant_text (unsigned_abs w.kernel.now) (dumped_after scopes schedule labels None (ended i schedule limit)) (values scopes schedule labels w)))
+      ∙ (λ j. so_far ++ instant_text (now j) (sym dumped_is j) (values_are j))
+
+  module _ (old middle new : Option (List ℕ)) (wrote : Appends old middle (instants_text scopes schedule labels None (ended i schedule limit))) where
+    pub all_instants : (piece : List ℕ) → piece ≡ last_text → Appends middle new piece → Appends old new (instants_text scopes schedule labels None (instants i schedule limit))
+    all_instants piece is app =
+        subst (Appends old new) (sym last_instant)
+        (appends_two old middle new (instants_text scopes schedule labels None (ended i schedule limit)) last_text wrote (subst (Appends middle new) is app))
+
+    pub last_begun : (piece : List ℕ) → piece ≡ last_text → AppendsBeginning middle new piece → AppendsBeginning old new (instants_text scopes schedule labels None (instants i schedule limit))
+    last_begun piece is begun =
+        subst (AppendsBeginning old new) (sym last_instant)
+        (beginning_after old middle new (instants_text scopes schedule labels None (ended i schedule limit)) last_text wrote (subst (AppendsBeginning middle new) is begun))
+
+pub ended_begun : (scopes : Scopes) (i : Sections) (schedule : List ScheduleLine) (labels : List TaskLabel) (limit : ℕ) (old new : Option (List ℕ)) → AppendsBeginning old new (instants_text scopes schedule labels None (ended i schedule limit)) →
+    AppendsBeginning old new (instants_text scopes schedule labels None (instants i schedule limit))
+ended_begun scopes i schedule labels limit old new begun =
     let last = code i schedule limit ∷ [] in
-    subst (AppendsBeginning old new) (sym (text_more scopes schedule None (ended i schedule limit) last))
-    (beginning_of_more old new (instants_text scopes schedule None (ended i schedule limit)) (instants_text scopes schedule (dumped_after scopes schedule None (ended i schedule limit)) last) begun)
-
--- by what the machine is asked for at the end
-module _ (scopes : Scopes) (i : Sections) (schedule : List ScheduleLine) (limit : ℕ) (h : HeldWorld) (dumped : Option (List ℕ)) (time : ℕ) (vs : List ℕ) (stands : HoldsWorld h (code i schedule limit))
-    (dumped_is : dumped ≡ dumped_after scopes schedule None (ended i schedule limit)) (time_is : time ≡ unsigned_abs (kernel_of h.tasking).now) (are : vs ≡ values scopes schedule (world_of h))
-    (old middle new : Option (List ℕ)) (wrote : Appends old middle (instants_text scopes schedule None (ended i schedule limit))) where
-  pub all_instants : (text : List ℕ) → text ≡ instant_text time dumped vs → Appends middle new text → Appends old new (instants_text scopes schedule None (instants i schedule limit))
-  all_instants text is app =
-      subst (Appends old new) (sym (last_instant scopes i schedule limit h dumped time vs stands dumped_is time_is are))
-      (appends_two old middle new (instants_text scopes schedule None (ended i schedule limit)) (instant_text time dumped vs) wrote (subst (Appends middle new) is app))
-
-  pub last_begun : (text : List ℕ) → text ≡ instant_text time dumped vs → AppendsBeginning middle new text → AppendsBeginning old new (instants_text scopes schedule None (instants i schedule limit))
-  last_begun text is begun =
-      subst (AppendsBeginning old new) (sym (last_instant scopes i schedule limit h dumped time vs stands dumped_is time_is are))
-      (beginning_after old middle new (instants_text scopes schedule None (ended i schedule limit)) (instant_text time dumped vs) wrote (subst (AppendsBeginning middle new) is begun))
+    subst (AppendsBeginning old new) (sym (text_more scopes schedule labels None (ended i schedule limit) last))
+    (beginning_of_more old new (instants_text scopes schedule labels None (ended i schedule limit)) (instants_text scopes schedule labels (dumped_after scopes schedule labels None (ended i schedule limit)) last) begun)

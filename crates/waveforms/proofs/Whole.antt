@@ -1,5 +1,5 @@
 -- The text of a whole dump: what is written in front, what the steps change, and the end.
-use Rattle.std.proofs.Common.{◌≡◌, ℕ, List, ◌++◌, Option, ap, sym, ◌∙◌}
+use Rattle.std.proofs.Common.{◌≡◌, ℕ, List, ◌++◌, Option, sym, ◌∙◌}
 use Rattle.std.specs.Io.KnownBytes.{Appends}
 use Rattle.base.specs.declared.schedule.ScheduleLine.{ScheduleLine}
 use Rattle.image.specs.Code.{code}
@@ -13,19 +13,26 @@ use Rattle.machine.specs.Written.{AppendsBeginning}
 use Rattle.machine.specs.Taken.{steps_taken}
 use Rattle.machine.specs.declared.bound.Bound.{Bound}
 use Rattle.machine.specs.declared.reports.Outcome.{Outcome}
+use Rattle.waveforms.specs.LastValues.{HeldRows, shown_by}
+use Rattle.waveforms.specs.Lines.{TaskLabel, labels_of}
 use Rattle.waveforms.specs.Signals.{values}
 use Rattle.waveforms.specs.Waves.{declarations_text, ending_text, start_text, steps_text, waves_text}
 use Rattle.waveforms.specs.Scopes.{Scopes}
 use Rattle.waveforms.specs.declared.axis.Axis.TheVariants as axes
-use Rattle.waveforms.proofs.HeldValues.{values_held}
+use Rattle.waveforms.proofs.HeldValues.{shown_held}
+use Rattle.waveforms.proofs.Noted.{Noted}
 use Rattle.waveforms.proofs.Parts as parts
+
+-- the labels of the lines of a run within a bound
+abbrev pub labels_in : Sections → List ScheduleLine → Bound → List TaskLabel
+labels_in i schedule bound = labels_of (code i schedule bound.steps).kernel.lines
 
 module _ (i : Sections) (scopes : Scopes) (schedule : List ScheduleLine) (bound : Bound) where
   abbrev pub front : List ℕ
-  front = declarations_text axes.Steps scopes schedule i ++ start_text 0 (values scopes schedule (code i schedule 0))
+  front = declarations_text axes.Steps scopes schedule (labels_in i schedule bound) i ++ start_text 0 (values scopes schedule (labels_in i schedule bound) (code i schedule 0))
 
   abbrev pub changes : List ℕ
-  changes = steps_text i scopes schedule bound.steps
+  changes = steps_text i scopes schedule (labels_in i schedule bound) bound.steps
 
   abbrev pub end_ : List ℕ
   end_ = let k = (code i schedule bound.steps).kernel in ending_text (steps_taken i schedule bound.steps) (cut_line bound.cut (names_of i) k.outcome k.now)
@@ -56,14 +63,15 @@ last_is i schedule bound h image schedule_is o line ends said =
 
 -- what a machine has written of this image and schedule
 module _ (i : Sections) (scopes : Scopes) (schedule : List ScheduleLine) (bound : Bound) (h : HeldWorld) (image : h.image ≡ i) (schedule_is : h.schedule ≡ schedule) where
-  pub front_is : HoldsWorld h (code i schedule 0) → (read : List ScheduleLine) (text : List ℕ) → read ≡ schedule → text ≡ declarations_text axes.Steps scopes read i ++ start_text 0 (values scopes read (world_of h)) → text ≡ front i scopes schedule bound
-  front_is stands read text same is =
-      is
-      ∙ ap (λ s. declarations_text axes.Steps scopes s i ++ start_text 0 (values scopes s (world_of h))) same
-      ∙ ap (λ v. declarations_text axes.Steps scopes schedule i ++ start_text 0 v) (sym (values_held scopes schedule h (code i schedule 0) stands))
+  pub front_is : HoldsWorld h (code i schedule 0) → (r : HeldRows) → Noted i schedule (labels_in i schedule bound) 0 r → (text : List ℕ) →
+      text ≡ declarations_text axes.Steps scopes r.schedule r.lines.labels i ++ start_text 0 (shown_by scopes r (world_of h)) → text ≡ front i scopes schedule bound
+  front_is stands r noted text is =
+      let labels = labels_in i schedule bound in
+      let shown = shown_held scopes schedule labels h (code i schedule 0) stands r noted.schedule_is noted.current in
+      is ∙ (λ j. declarations_text axes.Steps scopes (noted.schedule_is j) (noted.labels_are j) i ++ start_text 0 (shown j))
 
-  pub changes_are : steps_text h.image scopes h.schedule bound.steps ≡ changes i scopes schedule bound
-  changes_are = λ j. steps_text (image j) scopes (schedule_is j) bound.steps
+  pub changes_are : (labels : List TaskLabel) → labels ≡ labels_in i schedule bound → steps_text h.image scopes h.schedule labels bound.steps ≡ changes i scopes schedule bound
+  changes_are labels are = λ j. steps_text (image j) scopes (schedule_is j) (are j) bound.steps
 
   pub end_is : (o : Outcome) (taken : ℕ) (line text : List ℕ) → taken ≡ steps_taken h.image h.schedule bound.steps → EndsBy o (code h.image h.schedule bound.steps) →
       line ≡ cut_line bound.cut (names_of i) (ending_of o) (time_of o) → text ≡ ending_text taken line → text ≡ end_ i scopes schedule bound

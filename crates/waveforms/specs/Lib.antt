@@ -1,4 +1,5 @@
 pub mod Scopes
+pub mod Lines
 pub mod Signals
 pub mod Waves
 pub mod Instants

@@ -1,4 +1,4 @@
--- The values of a run's signals: its time, the states of its tasks and protected objects, its variables and its inputs, by the world of code.
+-- The values of a run's signals: its time, the states of its tasks and protected objects, its variables, its inputs and its lines, by the world of code.
 use Rattle.std.specs.Prelude.{ℕ, zero, suc, ◌+◌, ◌*◌, ℤ, pos, List, [], ◌∷◌, ◌++◌, Option, Some, None, Bool, false, get_or, length, map, nat_eq, slice_get, if◌then◌else◌}
 use Rattle.std.specs.Int.{cast_unsigned, w64}
 use Rattle.std.specs.List.{list_any}
@@ -7,6 +7,7 @@ use Rattle.base.specs.declared.limits.TheConstants.{CHANNELS}
 use Rattle.base.specs.declared.schedule.ScheduleLine.{ScheduleLine}
 use Rattle.kernel.specs.State.{Kernel, Outcome, Unhandled, TaskPlace, IsRunning, IsReady, IsAsleep, IsQueued, IsServed, IsFinished, active, inside, is_task}
 use Rattle.image.specs.Code.{CodeWorld}
+use Rattle.waveforms.specs.Lines.{TaskLabel, line_values}
 use Rattle.waveforms.specs.Scopes.{VariableScope, Scopes, Variable}
 
 -- what stands for each number below n, in their order
@@ -101,8 +102,16 @@ world_values scopes w =
     ++ all_below w.kernel.partition.objects (shown_object scopes w)
 
 -- with the inputs at its time
-abbrev pub values : Scopes → List ScheduleLine → CodeWorld → List ℕ
-values scopes schedule w = world_values scopes w ++ input_values schedule w.kernel.now
+abbrev pub known_values : Scopes → List ScheduleLine → CodeWorld → List ℕ
+known_values scopes schedule w = world_values scopes w ++ input_values schedule w.kernel.now
+
+-- all signals: those that have a value from the start, and after them those of lines, which have one from the first line on
+pub record Shown : Type 0 where
+  pub known : List ℕ
+  pub lines : List (Option ℕ)
+
+abbrev pub values : Scopes → List ScheduleLine → List TaskLabel → CodeWorld → Shown
+values scopes schedule labels w = record { known = known_values scopes schedule w; lines = line_values labels w.kernel.lines }
 
 -- Signals are numbered from 0. The first of the package follows the time and those of the tasks, of which there are so many.
 
@@ -114,3 +123,7 @@ package_first tasks = 1 + 2 * tasks
 abbrev pub object_first : Scopes → (tasks : ℕ) → ℕ → ℕ
 object_first scopes tasks zero = package_first tasks + length (package_variables scopes)
 object_first scopes tasks (suc o) = object_first scopes tasks o + 2 + length (components scopes o)
+
+-- the first of the lines follows those of the inputs
+abbrev pub lines_first : Scopes → List ScheduleLine → (tasks objects : ℕ) → ℕ
+lines_first scopes schedule tasks objects = object_first scopes tasks objects + length (channels schedule)

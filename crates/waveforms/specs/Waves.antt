@@ -1,5 +1,5 @@
 -- The value change dump of a run, byte for byte (docs/FORMATS.md, "Value change dumps").
-use Rattle.std.specs.Prelude.{ℕ, zero, suc, ◌+◌, ◌*◌, ◌/◌, ◌%◌, List, [], ◌∷◌, ◌++◌, Option, Some, None, Bool, false, ◌&&◌, codes, decimal, length, nat_eq, nat_lt, bytes_eq, slice_get, if◌then◌else◌}
+use Rattle.std.specs.Prelude.{ℕ, zero, suc, ◌+◌, ◌*◌, ◌/◌, ◌%◌, List, [], ◌∷◌, ◌++◌, Option, Some, None, Bool, false, true, ◌&&◌, codes, decimal, length, nat_eq, nat_lt, slice_get, if◌then◌else◌}
 use Rattle.std.specs.Fmt.{digits}
 use Rattle.std.specs.List.{list_all}
 use Rattle.base.specs.Names.{is_name}
@@ -10,7 +10,8 @@ use Rattle.image.specs.Texts.{names_of}
 use Rattle.machine.specs.Bounds.{cut_line}
 use Rattle.machine.specs.Taken.{steps_taken}
 use Rattle.machine.specs.declared.bound.Bound.{Bound}
-use Rattle.waveforms.specs.Signals.{all_below, channels, components, object_first, package_first, values}
+use Rattle.waveforms.specs.Lines.{TaskLabel, labels_of}
+use Rattle.waveforms.specs.Signals.{Shown, all_below, channels, components, lines_first, object_first, package_first, values}
 use Rattle.waveforms.specs.declared.axis.Axis.{Axis}
 use Rattle.waveforms.specs.declared.axis.Axis.TheVariants as axes
 use Rattle.waveforms.specs.Scopes.{VariableScope, Scopes, Variable}
@@ -109,6 +110,26 @@ abbrev pub inputs_scope : ℕ → List ℕ → List ℕ
 inputs_scope s [] = []
 inputs_scope s (c ∷ cs) = scope_text (codes "inputs") (channels_text s (c ∷ cs))
 
+-- Lines
+
+-- the task's name and the label, which has printable characters alone (base/specs/Names, `is_label`)
+abbrev pub label_name : (name : ℕ → List ℕ) → TaskLabel → List ℕ
+label_name name p = name p.task ++ codes "." ++ p.label
+
+-- signed, as variables are, and with `\` before the name, as those whose name is no identifier
+abbrev pub label_text : (name : ℕ → List ℕ) → ℕ → TaskLabel → List ℕ
+label_text name s p = codes "$var integer 64 " ++ signal_code s ++ codes " \\" ++ label_name name p ++ codes " $end\n"
+
+-- the first of them has number s
+abbrev pub labels_text : (name : ℕ → List ℕ) → ℕ → List TaskLabel → List ℕ
+labels_text name s [] = []
+labels_text name s (p ∷ ps) = label_text name s p ++ labels_text name (suc s) ps
+
+-- no scope where the run writes no line
+abbrev pub lines_scope : (name : ℕ → List ℕ) → ℕ → List TaskLabel → List ℕ
+lines_scope name s [] = []
+lines_scope name s (p ∷ ps) = scope_text (codes "lines") (labels_text name s (p ∷ ps))
+
 -- All
 
 -- what a tick of the axis is
@@ -130,14 +151,15 @@ preamble axis =
     ++ timescale axis
     ++ codes "$scope module run $end\n"
 
-abbrev pub declarations_text : Axis → Scopes → List ScheduleLine → Sections → List ℕ
-declarations_text axis scopes schedule i =
+abbrev pub declarations_text : Axis → Scopes → List ScheduleLine → List TaskLabel → Sections → List ℕ
+declarations_text axis scopes schedule labels i =
     preamble axis
     ++ declaration_text (codes "64") 0 (codes "time")
     ++ all_below (length i.tasks) (task_scope (names_of i).task)
     ++ package_scope (length i.tasks) scopes.package_
     ++ all_below (length i.objects) (object_scope scopes (length i.tasks))
     ++ inputs_scope (object_first scopes (length i.tasks) (length i.objects)) (channels schedule)
+    ++ lines_scope (names_of i).task (lines_first scopes schedule (length i.tasks) (length i.objects)) labels
     ++ codes "$upscope $end\n$enddefinitions $end\n"
 
 -- Values
@@ -156,12 +178,38 @@ abbrev pub changes_text : ℕ → List ℕ → List ℕ → List ℕ
 changes_text s (v ∷ vs) (w ∷ ws) = (if nat_eq v w then [] else value_text s w) ++ changes_text (suc s) vs ws
 changes_text s _ _ = []
 
+-- the value of a label's last line: x in place of digits, where there is no line so far
+abbrev pub line_value_text : ℕ → Option ℕ → List ℕ
+line_value_text s None = codes "bx " ++ signal_code s ++ codes "\n"
+line_value_text s (Some value) = value_text s value
+
+abbrev pub line_values_text : ℕ → List (Option ℕ) → List ℕ
+line_values_text s [] = []
+line_values_text s (v ∷ vs) = line_value_text s v ++ line_values_text (suc s) vs
+
+abbrev pub is_same_value : Option ℕ → Option ℕ → Bool
+is_same_value None None = true
+is_same_value (Some v) (Some w) = nat_eq v w
+is_same_value _ _ = false
+
+abbrev pub line_changes_text : ℕ → List (Option ℕ) → List (Option ℕ) → List ℕ
+line_changes_text s (v ∷ vs) (w ∷ ws) = (if is_same_value v w then [] else line_value_text s w) ++ line_changes_text (suc s) vs ws
+line_changes_text s _ _ = []
+
+-- of all signals: the first of the lines follows those that have a value from the start
+
+abbrev pub all_values_text : Shown → List ℕ
+all_values_text vs = values_text 0 vs.known ++ line_values_text (length vs.known) vs.lines
+
+abbrev pub all_changes_text : Shown → Shown → List ℕ
+all_changes_text old new = changes_text 0 old.known new.known ++ line_changes_text (length new.known) old.lines new.lines
+
 abbrev pub tick_text : ℕ → List ℕ
 tick_text n = codes "#" ++ decimal n ++ codes "\n"
 
 -- all values, from this tick on
-abbrev pub start_text : ℕ → List ℕ → List ℕ
-start_text n vs = tick_text n ++ codes "$dumpvars\n" ++ values_text 0 vs ++ codes "$end\n"
+abbrev pub start_text : ℕ → Shown → List ℕ
+start_text n vs = tick_text n ++ codes "$dumpvars\n" ++ all_values_text vs ++ codes "$end\n"
 
 -- with the last line of the run
 abbrev pub comment_text : List ℕ → List ℕ
@@ -169,24 +217,31 @@ comment_text last = codes "$comment " ++ last ++ codes "$end\n"
 
 -- Steps as the axis: the world after n steps stands from tick n to tick n + 1
 
--- the text of step n, by the values before and after it: none where it changes none
-abbrev pub step_text : ℕ → List ℕ → List ℕ → List ℕ
-step_text n old new = if bytes_eq old new then [] else tick_text n ++ changes_text 0 old new
+-- changes from this tick on, if there are any
+abbrev pub with_tick : ℕ → List ℕ → List ℕ
+with_tick n [] = []
+with_tick n (c ∷ cs) = tick_text n ++ (c ∷ cs)
 
-abbrev pub steps_text : Sections → Scopes → List ScheduleLine → ℕ → List ℕ
-steps_text i scopes schedule zero = []
-steps_text i scopes schedule (suc n) =
-    steps_text i scopes schedule n ++ step_text (suc n) (values scopes schedule (code i schedule n)) (values scopes schedule (code i schedule (suc n)))
+-- the text of step n, by the values before and after it
+abbrev pub step_text : ℕ → Shown → Shown → List ℕ
+step_text n old new = with_tick n (all_changes_text old new)
+
+abbrev pub steps_text : Sections → Scopes → List ScheduleLine → List TaskLabel → ℕ → List ℕ
+steps_text i scopes schedule labels zero = []
+steps_text i scopes schedule labels (suc n) =
+    steps_text i scopes schedule labels n
+    ++ step_text (suc n) (values scopes schedule labels (code i schedule n)) (values scopes schedule labels (code i schedule (suc n)))
 
 -- the end of the last world's tick
 abbrev pub ending_text : ℕ → List ℕ → List ℕ
 ending_text taken last = tick_text (taken + 1) ++ comment_text last
 
--- all that is written of a run within a bound, over its steps, with the variables of these scopes
+-- all that is written of a run within a bound, over its steps, with the variables of these scopes and the labels of its lines
 abbrev pub waves_text : Sections → Scopes → List ScheduleLine → Bound → List ℕ
 waves_text i scopes schedule bound =
     let k = (code i schedule bound.steps).kernel in
-    declarations_text axes.Steps scopes schedule i
-    ++ start_text 0 (values scopes schedule (code i schedule 0))
-    ++ steps_text i scopes schedule bound.steps
+    let labels = labels_of k.lines in
+    declarations_text axes.Steps scopes schedule labels i
+    ++ start_text 0 (values scopes schedule labels (code i schedule 0))
+    ++ steps_text i scopes schedule labels bound.steps
     ++ ending_text (steps_taken i schedule bound.steps) (cut_line bound.cut (names_of i) k.outcome k.now)

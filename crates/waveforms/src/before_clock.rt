@@ -9,7 +9,7 @@ ghost use Rattle.waveforms.specs.Signals as signals;
 ghost use Rattle.waveforms.specs.Signals.{all_below, object_first, shown_object, state_number, task_values};
 
 use crate::scopes::Scopes;
-use crate::values::{add_two, add_variables, from_one, is_left, place_number};
+use crate::values::{add_object, add_two, add_variables, is_left, place_number};
 use clock::Delays;
 use dispatch::Ready;
 use machine::{Machine, Place};
@@ -84,10 +84,8 @@ fn add_objects<R: Ready, D: Delays>(
     ensures capacity { vec_capacity values.new ≡ vec_capacity values.old }
 {
     for object in 0..machine.objects() {
-        let inside = from_one(inside_before(machine, object));
-        add_two(values, inside, from_one(machine.queued(object)));
-        let words = machine.object_words(object);
-        add_variables(values, words, scopes.components(object));
+        let inside = inside_before(machine, object);
+        add_object(values, machine, scopes, object, inside);
     }
 }
 

@@ -3,14 +3,15 @@ ghost use Rattle.std.specs.Prelude.{◌≡◌, ◌+◌, ◌*◌, ◌<◌, ◌≤
 ghost use Rattle.std.specs.List.{list_all};
 ghost use Rattle.arrayvec.specs.ArrayVec.{array_vec_len};
 ghost use Rattle.base.specs.declared.limits.TheConstants.{NAME_LIMIT, TASKS};
-ghost use Rattle.image.specs.Texts.{name_of};
+ghost use Rattle.image.specs.Texts.{name_of, names_of};
 ghost use Rattle.waveforms.specs.Signals.{all_below};
 ghost use Rattle.waveforms.specs.Waves as waves;
-ghost use Rattle.waveforms.specs.Waves.{channel_text, channels_text, declaration_text, declarations_text, inputs_scope, object_scope, object_text, package_scope, scope_text, task_scope, variable_text, variables_text};
+ghost use Rattle.waveforms.specs.Waves.{channel_text, channels_text, declaration_text, declarations_text, inputs_scope, label_name, label_text, labels_text, lines_scope, object_scope, object_text, package_scope, scope_text, task_scope, variable_text, variables_text};
 ghost use Rattle.waveforms.specs.declared.declarations.TheConstants.{DECLARATION_BYTES};
 
 use crate::axis::Axis;
-use crate::inputs::Inputs;
+use crate::lines::TaskLabel;
+use crate::rows::Rows;
 use crate::scopes::{Scopes, Variable, VariableScope};
 use crate::text::{CODE_BYTES, put, signal_code};
 use crate::values::{after_object, signal_count, sum};
@@ -20,7 +21,7 @@ use base::limits::{NAME_LIMIT, TASKS};
 use base::names::is_name;
 use image::{Image, Task};
 use itoa::Buffer;
-use machine::task_name;
+use machine::{actor_name, task_name};
 use std::alloc::{AllocError, Global};
 
 /// The most bytes of the declaration of a signal of the kernel.
@@ -295,6 +296,73 @@ fn add_inputs(text: &mut Vec<u8>, first: usize, channels: &[u8]) -> Result<(), A
     }
 }
 
+// Adds the name of a label: that of its task or handler and its own.
+fn add_label_name(
+    text: &mut Vec<u8>,
+    image: &Image,
+    label: &TaskLabel<'_>,
+) -> Result<(), AllocError>
+    ensures { OnOk result (text.new.items ≡ text.old.items ++ label_name (names_of image.now).task label.now) }
+{
+    text.extend_from_slice(actor_name(image, label.task()).as_slice())?;
+    text.extend_from_slice(b".")?;
+    text.extend_from_slice(label.label())?;
+    Ok(())
+}
+
+// Adds the declaration of the lines under a label, which have this signal.
+fn add_label(
+    text: &mut Vec<u8>,
+    image: &Image,
+    signal: usize,
+    label: &TaskLabel<'_>,
+) -> Result<(), AllocError>
+    ensures { OnOk result (text.new.items ≡ text.old.items ++ label_text (names_of image.now).task signal label.now) }
+{
+    text.extend_from_slice(b"$var integer 64 ")?;
+    text.extend_from_slice(signal_code(signal).as_slice())?;
+    text.extend_from_slice(b" \\")?;
+    add_label_name(text, image, label)?;
+    text.extend_from_slice(b" $end\n")?;
+    Ok(())
+}
+
+// Adds the declarations of the lines under labels, the first of which have this signal.
+fn add_labels(
+    text: &mut Vec<u8>,
+    image: &Image,
+    first: usize,
+    labels: &[TaskLabel<'_>],
+) -> Result<(), AllocError>
+    ensures { OnOk result (text.new.items ≡ text.old.items ++ labels_text (names_of image.now).task first labels.now) }
+{
+    let mut signal = first;
+    for label in labels {
+        add_label(text, image, signal, label)?;
+        signal = sum(signal, 1)?;
+    }
+    Ok(())
+}
+
+// Adds the scope of lines, if there are any, the first of which have this signal.
+fn add_lines(
+    text: &mut Vec<u8>,
+    image: &Image,
+    first: usize,
+    labels: &[TaskLabel<'_>],
+) -> Result<(), AllocError>
+    ensures { OnOk result (text.new.items ≡ text.old.items ++ lines_scope (names_of image.now).task first labels.now) }
+{
+    match labels {
+        [] => Ok(()),
+        [_, ..] => {
+            begin_scope(text, b"lines")?;
+            add_labels(text, image, first, labels)?;
+            end_scope(text)
+        }
+    }
+}
+
 // What the file says of itself.
 fn preamble(alloc: Global, axis: Axis) -> Result<Vec<u8>, AllocError>
     ensures { IfOk result (λ text. text.items ≡ waves.preamble axis) }
@@ -311,20 +379,20 @@ fn preamble(alloc: Global, axis: Axis) -> Result<Vec<u8>, AllocError>
     Ok(text)
 }
 
-/// The declarations of all signals for this axis, where the image has so many tasks and objects.
+/// The declarations of all signals for this axis, of the inputs and lines that rows have, where the image has so many tasks and objects.
 pub(crate) fn declarations(
     alloc: Global,
     axis: Axis,
     image: &Image,
     scopes: &Scopes,
-    inputs: &Inputs<'_>,
+    rows: &Rows<'_, '_>,
     tasks: u8,
     objects: u8,
 ) -> Result<Vec<u8>, AllocError>
     requires tasks { tasks ≡ length image.now.tasks }
     requires objects { objects ≡ length image.now.objects }
     requires few { tasks ≤ TASKS }
-    ensures { IfOk result (λ text. text.items ≡ declarations_text axis scopes.now inputs.now image.now) }
+    ensures { IfOk result (λ text. text.items ≡ declarations_text axis scopes.now rows.now.schedule rows.now.lines.labels image.now) }
 {
     let mut text = preamble(alloc, axis)?;
     text.extend_from_slice(declaration(b"64", 0, b"time").as_slice())?;
@@ -332,7 +400,10 @@ pub(crate) fn declarations(
     add_package(&mut text, tasks, scopes.package_())?;
     add_objects(&mut text, scopes, tasks, objects)?;
     let first = signal_count(scopes, tasks, objects)?;
-    add_inputs(&mut text, first, inputs.channels())?;
+    let channels = rows.inputs().channels();
+    add_inputs(&mut text, first, channels)?;
+    let after = sum(first, channels.len())?;
+    add_lines(&mut text, image, after, rows.labels())?;
     text.extend_from_slice(b"$upscope $end\n$enddefinitions $end\n")?;
     Ok(text)
 }

@@ -6,6 +6,7 @@ mod before_clock;
 mod declarations;
 mod inputs;
 mod instants;
+mod lines;
 mod rows;
 mod scopes;
 mod text;

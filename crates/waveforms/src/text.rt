@@ -1,12 +1,14 @@
 //! The texts of values, of the start, of steps and of the end.
-ghost use Rattle.std.specs.Prelude.{◌≡◌, ◌+◌, ◌*◌, ◌≤◌, ◌++◌, false, length, option_map, vec_capacity, vec_len};
+ghost use Rattle.std.specs.Prelude.{◌≡◌, ◌+◌, ◌*◌, ◌≤◌, ◌++◌, None, false, length, vec_capacity, vec_len};
 ghost use Rattle.std.specs.Fmt.{digits};
 ghost use Rattle.arrayvec.specs.ArrayVec.{array_vec_len};
+ghost use Rattle.waveforms.specs.LastValues.{written_values};
 ghost use Rattle.waveforms.specs.TimeWaves.{instant_text};
 ghost use Rattle.waveforms.specs.Waves as waves;
-ghost use Rattle.waveforms.specs.Waves.{changes_text, comment_text, ending_text, start_text, tick_text, value_text, values_text};
+ghost use Rattle.waveforms.specs.Waves.{all_changes_text, changes_text, comment_text, ending_text, line_changes_text, line_value_text, line_values_text, start_text, tick_text, value_text, values_text};
 ghost use Rattle.waveforms.specs.declared.text.TheConstants.{FRONT_BYTES, STEP_BYTES, VALUE_BYTES};
 
+use crate::lines::Lines;
 use arrayvec::ArrayVec;
 use itoa::Buffer;
 use machine::{LINE_BYTES, LineText};
@@ -119,6 +121,7 @@ fn put_values(text: &mut Vec<u8>, values: &[u64])
 fn put_changes(text: &mut Vec<u8>, before: &[u64], after: &[u64])
     requires { vec_len text.old + length after.now * VALUE_BYTES ≤ vec_capacity text.old }
     ensures items { text.new.items ≡ text.old.items ++ changes_text 0 before.now after.now }
+    ensures len { vec_len text.new ≤ vec_len text.old + length after.now * VALUE_BYTES }
     ensures capacity { vec_capacity text.old ≤ vec_capacity text.new }
 {
     let mut signal = 0;
@@ -127,6 +130,74 @@ fn put_changes(text: &mut Vec<u8>, before: &[u64], after: &[u64])
             append(text, value_line(signal, after[signal]).as_slice());
         }
         signal += 1;
+    }
+}
+
+// The line of the value of a label's last line, if there is one so far.
+fn line_value_line(signal: usize, value: Option<u64>) -> ArrayVec<u8, VALUE_BYTES>
+    ensures { result.items ≡ line_value_text signal value }
+{
+    match value {
+        None => unknown_line(signal),
+        Some(value) => value_line(signal, value),
+    }
+}
+
+// The line of a value that isn't known yet.
+fn unknown_line(signal: usize) -> ArrayVec<u8, VALUE_BYTES>
+    ensures { result.items ≡ line_value_text signal None }
+{
+    let mut line = ArrayVec::new();
+    put(&mut line, b"bx ");
+    put(&mut line, signal_code(signal).as_slice());
+    put(&mut line, b"\n");
+    line
+}
+
+// Whether two values are the same.
+fn is_same_value(left: Option<u64>, right: Option<u64>) -> bool
+    ensures { result ≡ waves.is_same_value left right }
+{
+    match (left, right) {
+        (None, None) => true,
+        (Some(left), Some(right)) => left == right,
+        _ => false,
+    }
+}
+
+// Appends the lines of the values of lines, the first of which has this signal.
+fn put_line_values(text: &mut Vec<u8>, first: usize, values: &[Option<u64>])
+    requires room { vec_len text.old + length values.now * VALUE_BYTES ≤ vec_capacity text.old }
+    requires few { first + length values.now ≤ vec_capacity text.old }
+    ensures items { text.new.items ≡ text.old.items ++ line_values_text first values.now }
+    ensures len { vec_len text.new ≤ vec_len text.old + length values.now * VALUE_BYTES }
+    ensures capacity { vec_capacity text.old ≤ vec_capacity text.new }
+{
+    let _capacity = text.capacity();
+    let mut signal = first;
+    for value in values {
+        append(text, line_value_line(signal, *value).as_slice());
+        signal += 1;
+    }
+}
+
+// Appends the lines of those that are other ones than before.
+fn put_line_changes(text: &mut Vec<u8>, first: usize, before: &[Option<u64>], after: &[Option<u64>])
+    requires room { vec_len text.old + length after.now * VALUE_BYTES ≤ vec_capacity text.old }
+    requires few { first + length after.now ≤ vec_capacity text.old }
+    ensures items { text.new.items ≡ text.old.items ++ line_changes_text first before.now after.now }
+    ensures capacity { vec_capacity text.old ≤ vec_capacity text.new }
+{
+    let _capacity = text.capacity();
+    let mut index = 0;
+    while index < before.len() && index < after.len() {
+        if !is_same_value(before[index], after[index]) {
+            append(
+                text,
+                line_value_line(first + index, after[index]).as_slice(),
+            );
+        }
+        index += 1;
     }
 }
 
@@ -141,40 +212,77 @@ fn tick_line(tick: u128) -> ArrayVec<u8, TICK_BYTES>
     line
 }
 
-/// Makes the text of the start, at this tick: all values.
-pub(crate) fn start_text(text: &mut Vec<u8>, tick: u64, values: &[u64])
-    requires { STEP_BYTES + length values.now * VALUE_BYTES ≤ vec_capacity text.old }
-    ensures items { text.new.items ≡ start_text tick values.now }
+/// Makes the text of the start, at this tick: all values, and after them those of lines.
+pub(crate) fn start_text(text: &mut Vec<u8>, tick: u64, values: &[u64], lines: &Lines<'_>)
+    requires { STEP_BYTES + (length values.now + length lines.now.labels) * VALUE_BYTES ≤ vec_capacity text.old }
+    ensures items { text.new.items ≡ start_text tick (record { known = values.now; lines = lines.now.current }) }
     ensures capacity { vec_capacity text.old ≤ vec_capacity text.new }
 {
     text.clear();
     append(text, tick_line(u128::from(tick)).as_slice());
     append(text, b"$dumpvars\n");
     put_values(text, values);
+    put_line_values(text, values.len(), lines.current());
     append(text, b"$end\n");
 }
 
-/// Makes the text of a tick with the values that have changed.
-pub(crate) fn changed_text(text: &mut Vec<u8>, tick: u64, before: &[u64], after: &[u64])
-    requires { STEP_BYTES + length after.now * VALUE_BYTES ≤ vec_capacity text.old }
-    ensures items { text.new.items ≡ tick_text tick ++ changes_text 0 before.now after.now }
+/// Makes the text of a tick with the values that have changed, and after them those of lines.
+pub(crate) fn changed_text(
+    text: &mut Vec<u8>,
+    tick: u64,
+    before: &[u64],
+    after: &[u64],
+    lines: &Lines<'_>,
+)
+    requires { STEP_BYTES + (length after.now + length lines.now.labels) * VALUE_BYTES ≤ vec_capacity text.old }
+    ensures items { text.new.items ≡ tick_text tick
+        ++ all_changes_text (record { known = before.now; lines = lines.now.written }) (record { known = after.now; lines = lines.now.current }) }
     ensures capacity { vec_capacity text.old ≤ vec_capacity text.new }
 {
     text.clear();
     append(text, tick_line(u128::from(tick)).as_slice());
     put_changes(text, before, after);
+    put_line_changes(text, after.len(), lines.written(), lines.current());
 }
 
-/// Makes the text of an instant at this time (microseconds since the start), where these values were written last, if any were.
-#[inline(never)]
-pub(crate) fn instant_text(text: &mut Vec<u8>, time: u64, dumped: Option<&[u64]>, values: &[u64])
-    requires { STEP_BYTES + length values.now * VALUE_BYTES ≤ vec_capacity text.old }
-    ensures items { text.new.items ≡ instant_text time (option_map (λ v. v.now) dumped.entry) values.now }
+/// Makes the text of a step: a tick with the values that have changed, or none where none has.
+pub(crate) fn step_text(
+    text: &mut Vec<u8>,
+    step: u64,
+    before: &[u64],
+    after: &[u64],
+    lines: &Lines<'_>,
+)
+    requires { STEP_BYTES + (length after.now + length lines.now.labels) * VALUE_BYTES ≤ vec_capacity text.old }
+    ensures items { text.new.items
+        ≡ waves.step_text step (record { known = before.now; lines = lines.now.written }) (record { known = after.now; lines = lines.now.current }) }
     ensures capacity { vec_capacity text.old ≤ vec_capacity text.new }
 {
-    match dumped {
-        None => start_text(text, time, values),
-        Some(dumped) => changed_text(text, time, dumped, values),
+    changed_text(text, step, before, after, lines);
+    if text.len() == tick_line(u128::from(step)).len() {
+        text.clear();
+    }
+}
+
+/// Makes the text of an instant at this time (microseconds since the start): all values where none were written, or else those that have changed.
+#[inline(never)]
+pub(crate) fn instant_text(
+    text: &mut Vec<u8>,
+    time: u64,
+    is_written: bool,
+    before: &[u64],
+    after: &[u64],
+    lines: &Lines<'_>,
+)
+    requires { STEP_BYTES + (length after.now + length lines.now.labels) * VALUE_BYTES ≤ vec_capacity text.old }
+    ensures items { text.new.items ≡ instant_text time (written_values is_written (record { known = before.now; lines = lines.now.written }))
+        (record { known = after.now; lines = lines.now.current }) }
+    ensures capacity { vec_capacity text.old ≤ vec_capacity text.new }
+{
+    if is_written {
+        changed_text(text, time, before, after, lines);
+    } else {
+        start_text(text, time, after, lines);
     }
 }
 

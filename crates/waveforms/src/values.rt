@@ -117,8 +117,8 @@ fn state_number<R: Ready, D: Delays>(machine: &Machine<'_, R, D>, task: u8) -> u
     }
 }
 
-/// A task's number counted from 1, or 0 for nobody.
-pub(crate) fn from_one(task: Option<u8>) -> u64
+// A task's number counted from 1, or 0 for nobody.
+fn from_one(task: Option<u8>) -> u64
     ensures { result ≡ signals.from_one task }
 {
     match task {
@@ -149,6 +149,27 @@ fn add_tasks<R: Ready, D: Delays>(values: &mut Vec<u64>, machine: &Machine<'_, R
     }
 }
 
+/// Adds the values of an object's signals, where it is known who is inside.
+pub(crate) fn add_object<R: Ready, D: Delays>(
+    values: &mut Vec<u64>,
+    machine: &Machine<'_, R, D>,
+    scopes: &Scopes,
+    object: u8,
+    inside: Option<u8>,
+)
+    requires there { object < length machine.now.image.objects }
+    requires room { vec_len values.old + 2 + length (components scopes.now object) ≤ vec_capacity values.old }
+    ensures items { let w = world_of machine.now in
+        values.new.items ≡ values.old.items ++ ((signals.from_one inside ∷ signals.from_one (w.kernel.queued object) ∷ [])
+        ++ variable_values (w.rest.memory.objects object) (components scopes.now object)) }
+    ensures len { vec_len values.new ≡ vec_len values.old + 2 + length (components scopes.now object) }
+    ensures capacity { vec_capacity values.new ≡ vec_capacity values.old }
+{
+    add_two(values, from_one(inside), from_one(machine.queued(object)));
+    let words = machine.object_words(object);
+    add_variables(values, words, scopes.components(object));
+}
+
 // Adds the values of the objects' signals.
 fn add_objects<R: Ready, D: Delays>(
     values: &mut Vec<u64>,
@@ -163,10 +184,8 @@ fn add_objects<R: Ready, D: Delays>(
     ensures capacity { vec_capacity values.new ≡ vec_capacity values.old }
 {
     for object in 0..machine.objects() {
-        let inside = from_one(first_inside(machine, object));
-        add_two(values, inside, from_one(machine.queued(object)));
-        let words = machine.object_words(object);
-        add_variables(values, words, scopes.components(object));
+        let inside = first_inside(machine, object);
+        add_object(values, machine, scopes, object, inside);
     }
 }
 

@@ -9,6 +9,7 @@ invariant-loop-signal l =
     (l.text.items ++ changes_text l.signal (drop l.signal l.fn.before) (drop l.signal l.fn.after) ≡ l.fn.text.items ++ changes_text 0 l.fn.before l.fn.after)
     × (vec_len l.text ≤ vec_len l.fn.text + l.signal * VALUE_BYTES)
     × (vec_capacity l.fn.text ≤ vec_capacity l.text)
+    × (l.signal ≤ length l.fn.after)
 
 abbrev pub decreases-loop-signal : goal.decreases-loop-signal
 decreases-loop-signal l = length l.fn.after - l.signal
