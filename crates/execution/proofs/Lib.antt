@@ -1,8 +1,10 @@
+pub mod Added
 pub mod Advancing
 mod Ahead
 pub mod Alike
 pub mod Apart
 mod Begun
+pub mod Encoded
 mod Ending
 mod Entries
 mod Going

@@ -2,3 +2,4 @@ pub mod Held
 pub mod Settling
 pub mod Ahead
 pub mod Saving
+pub mod Encoding

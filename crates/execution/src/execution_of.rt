@@ -6,6 +6,7 @@ ghost use Rattle.kernel.specs.Calm.{IsRunner};
 ghost use Rattle.kernel.specs.State.{Line as KernelLine, Outcome as KernelOutcome};
 ghost use Rattle.tasking.specs.Held.{kernel_of};
 ghost use Rattle.execution.specs.Ahead.{next_address, next_asking, next_frames, next_raising};
+ghost use Rattle.execution.specs.Encoding.{AreAdded};
 ghost use Rattle.execution.specs.Saving.{AreContentsOf};
 ghost use Rattle.execution.specs.Held.{Leads, lines_of, tasks_of, world_of, world_with};
 
@@ -154,6 +155,22 @@ impl<'a, 's, R: Ready, D: Delays> Execution<'a, 's, R, D> {
         ensures { IfOk result (λ contents. AreContentsOf self.now contents) }
     {
         self.state().contents(alloc)
+    }
+
+    /// Adds the words that tasks share and the frames of so many rows to others, so that equal words say that they are equal. `false` says that there are
+    /// more words in a frame than can be counted.
+    ///
+    /// # Errors
+    /// Where memory was refused.
+    pub fn add_contents(
+        &self,
+        alloc: Global,
+        count: usize,
+        out: &mut Vec<i64>,
+    ) -> Result<bool, AllocError>
+        ensures { IfOk result (λ is. is ≡ true → AreAdded self.now count out.old.items out.new.items) }
+    {
+        self.state().add_contents(alloc, count, out)
     }
 
     // What it holds.

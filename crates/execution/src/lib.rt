@@ -1,8 +1,8 @@
 //! Runs of images: the tasks' frames, the words that they share and the kernel, step by step as code's world goes on.
 #![tactic(auto)]
 
-mod comparing;
 mod contents;
+mod encoding;
 mod execution_of;
 mod frame_use;
 mod line;

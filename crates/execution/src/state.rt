@@ -15,6 +15,7 @@ ghost use Rattle.task_steps.specs.Raised.{raising_ahead};
 ghost use Rattle.kernel.specs.Interrupts.{actor_if};
 ghost use Rattle.tasking.specs.Held.{is_handler, kernel_of, partition_of};
 ghost use Rattle.execution.specs.Ahead.{frame_use};
+ghost use Rattle.execution.specs.Encoding.{AreAdded};
 ghost use Rattle.execution.specs.Saving.{AreContentsOf};
 ghost use Rattle.execution.specs.Held.{begun, body_state, prepared, rest_of, row_of, tasks_of, world_of};
 ghost use Rattle.execution.specs.Settling.{RunsThere};
@@ -25,6 +26,7 @@ ghost use Rattle.image.specs.Starting.{handler_state, role_within};
 ghost use Rattle.processor.specs.Layout.{role_of};
 
 use crate::contents::{Contents, copied_words, save_rows};
+use crate::encoding::{add_counted, add_rows};
 use crate::frame_use::FrameUse;
 use crate::parameters::Parameters;
 use crate::rooms::Rooms;
@@ -224,6 +226,26 @@ impl<'a, 's, R: Ready, D: Delays> State<'a, 's, R, D> {
         Ok(Contents { words, tasks })
     }
 
+    /// Adds the words and the frames of so many rows to others. `false` says that there are more words in a frame than can be counted.
+    ///
+    /// # Errors
+    /// Where memory was refused.
+    pub(crate) fn add_contents(
+        &self,
+        alloc: Global,
+        count: usize,
+        out: &mut Vec<i64>,
+    ) -> Result<bool, AllocError>
+        ensures { IfOk result (λ is. is ≡ true → AreAdded self.now count out.old.items out.new.items) }
+    {
+        let image = self.program.image();
+        let words = self.memory.used_words(image);
+        add_counted(out, words)?;
+        let rows = first_rows(&self.tasks, count);
+        let are_added = add_rows(alloc, rows, self.program.width(), out)?;
+        Ok(are_added)
+    }
+
     /// The image that runs.
     pub(crate) fn image(&self) -> &'a Image
         ensures { result.now ≡ self.now.image }
@@ -304,6 +326,13 @@ impl<'a, 's, R: Ready + Drop, D: Delays + Drop> State<'a, 's, R, D> {
             tables,
         }
     }
+}
+
+// So many first rows, or all if there are no more.
+fn first_rows(rows: &[TaskState], count: usize) -> &[TaskState]
+    ensures { result.now ≡ take count rows.now }
+{
+    &rows[..count.min(rows.len())]
 }
 
 // The tasks at the first instruction of their bodies.

@@ -1,8 +1,7 @@
 //! What frames have beside their words.
-ghost use Rattle.std.specs.Prelude.{◌≡◌, ◌<◌, ◌≤◌, ◌+◌, ◌∷◌, [], IfOk, length, true, vec_capacity};
+ghost use Rattle.std.specs.Prelude.{◌≡◌, ◌<◌, ◌≤◌, ◌+◌, ◌∷◌, [], IfOk, length, vec_capacity};
 ghost use Rattle.base.specs.declared.limits.TheConstants.{FRAMES, INSTRUCTIONS};
 
-use crate::digest::digest_with;
 use crate::role::Role;
 use base::limits::FRAMES;
 use std::alloc::{AllocError, Global};
@@ -10,7 +9,7 @@ use std::marker::Model;
 
 /// A frame but for its words: its subprogram, the place of its instruction or of the call that it waits for, how many of its words are locals,
 /// where its words begin in the row of its task, and how it came about.
-#[derive(Clone, Copy, PartialEq, Eq, Debug)]
+#[derive(Clone, Copy)]
 pub(crate) struct Header {
     pub(crate) subprogram: u16,
     pub(crate) place: u16,
@@ -35,36 +34,6 @@ impl Model for SavedHeaders {
     ghost view = { λ h. stack_of (reverse h.items.items) };
 
     ghost invariant = { λ h. (0 < length h.items.items) × (length h.items.items ≤ FRAMES + 1) };
-}
-
-impl SavedHeaders {
-    /// Another copy.
-    ///
-    /// # Errors
-    /// Where memory was refused.
-    pub(crate) fn copy(&self) -> Result<SavedHeaders, AllocError>
-        ensures { IfOk result (λ saved. saved ≡ self.now) }
-    {
-        Ok(SavedHeaders {
-            items: self.items.clone()?,
-        })
-    }
-
-    /// A digest of the places of the frames, with the given first number.
-    pub(crate) fn digest(&self, first: u64) -> u64 {
-        let mut digest = first;
-        for header in &self.items {
-            digest = digest_with(digest, u64::from(header.place));
-        }
-        digest
-    }
-
-    /// Whether other headers are the same. `false` doesn't say that they differ.
-    pub(crate) fn is_like(&self, other: &SavedHeaders) -> bool
-        ensures { result ≡ true → self.now ≡ other.now }
-    {
-        self.items == other.items
-    }
 }
 
 /// The headers of the frames of a task, that of the running one last, in memory that stays where it is. There is always one.

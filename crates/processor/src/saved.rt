@@ -1,9 +1,6 @@
 //! Copies of tasks, which take no more memory than their frames need.
-ghost use Rattle.std.specs.Prelude.{◌≡◌, IfOk, true};
 
-use crate::digest::digest_with;
 use crate::header::SavedHeaders;
-use std::alloc::AllocError;
 use std::marker::Model;
 
 /// A copy of what a task has: the words of its frames, and what each frame has beside them.
@@ -27,43 +24,4 @@ impl Model for SavedTask {
 
     ghost invariant = { λ s. AreStacked s.width (length s.words.items) (s.headers.running ∷ s.headers.waiting) × (length s.headers.waiting ≤ CALLERS)
         × (s.width ≤ FRAME_WORDS) };
-}
-
-impl SavedTask {
-    /// Another copy.
-    ///
-    /// # Errors
-    /// Where memory was refused.
-    pub fn copy(&self) -> Result<SavedTask, AllocError>
-        ensures { IfOk result (λ saved. saved ≡ self.now) }
-    {
-        Ok(SavedTask {
-            words: self.words.clone()?,
-            headers: self.headers.copy()?,
-            raising: self.raising,
-            width: self.width,
-        })
-    }
-
-    /// Whether another task has the same frames, and the same exception to raise. `false` doesn't say that they differ.
-    pub fn is_like(&self, other: &SavedTask) -> bool
-        ensures { result ≡ true → self.now.task ≡ other.now.task }
-    {
-        if self.raising != other.raising {
-            return false;
-        }
-        if !self.headers.is_like(&other.headers) {
-            return false;
-        }
-        self.words == other.words
-    }
-
-    /// A digest of the words of the frames and of how many frames there are, with the given first number.
-    pub fn digest(&self, first: u64) -> u64 {
-        let mut digest = self.headers.digest(first);
-        for word in &self.words {
-            digest = digest_with(digest, word.cast_unsigned());
-        }
-        digest
-    }
 }

@@ -1,5 +1,5 @@
 -- Where the step of a run passes the time of slots from a world that a row has, the run has met that of the row.
-use Rattle.std.proofs.Common.{◌≡◌, ℕ, zero, suc, ◌+◌, ◌-◌, ◌<◌, ◌≤◌, ℤ, List, [], ◌∷◌, ◌++◌, Option, Some, None, true, drop, get_or, length, set, take, inl, inr, refl, sym, ap, subst, ◌∙◌, ⊎_elim, arith, rules}
+use Rattle.std.proofs.Common.{◌≡◌, ℕ, zero, suc, ◌+◌, ◌-◌, ◌<◌, ◌≤◌, ℤ, List, [], ◌∷◌, ◌++◌, Option, Some, None, true, drop, get_or, length, take, inl, inr, refl, sym, ap, subst, ◌∙◌, ⊎_elim, arith, rules}
 use Rattle.std.proofs.lemmas.Int.{ints}
 use Rattle.std.specs.Prelude.{◌⊎◌, IfSome, ◌<ℤ◌, int_le, int_lt, nat_le}
 use Rattle.std.proofs.lemmas.Bool.{and_parts}
@@ -15,10 +15,12 @@ use Rattle.tasking.specs.Held.{Held, kernel_of}
 use Rattle.tasking.specs.Orderly.{time_ahead}
 use Rattle.execution.specs.Held.{HeldWorld, world_of}
 use Rattle.likeness.specs.Worlds.{IsEarly, IsLastBefore, NoneSooner}
-use Rattle.searching.specs.Following.{AreCheckpoints, AreKeptRows, AreValues, CrossesAt, CrossesFrom, HasMetAfter, HasMetQuietly, IsCheckpoint, IsMomentOf, IsPauseOf, IsRow, IsSeenIn, IsSomeRow, KeptCheckpoint, KeptMoment, KeptRow, MeetsRow, NoneBefore, Standing, StepsOn}
+use Rattle.searching.specs.Following.{AreCheckpoints, AreValues, CrossesAt, CrossesFrom, HasMetAfter, HasMetQuietly, IsCheckpoint, IsMomentOf, IsPauseOf, IsRow, KeptCheckpoint, KeptMoment, KeptRow, MeetsRow, NoneBefore, Standing, StepsOn}
 use Rattle.searching.specs.Meeting.{AgreeUnlessSet, IsSetAnew, MeetThere, StandsAfter, schedule_of}
 use Rattle.searching.specs.declared.sight.Wanted.{Wanted}
+use Rattle.execution.proofs.Encoded.{ahead_same}
 use Rattle.searching.proofs.Alike.{worlds_like}
+use Rattle.searching.proofs.Encoded.{alike_by}
 use Rattle.searching.proofs.Reaching.{has_met}
 
 some_same : {X : Type 0} (x y : X) → Some x ≡ Some y → x ≡ y
@@ -66,16 +68,21 @@ module _ (slots : List Slot) (part : Part) (places : List ℕ) (h : HeldWorld) (
   none_there = none_sooner time h m.next from.moment.next at.none
 
   pub meets : (r : KeptRow) (last : ℤ) (values : List ℤ) → IsRow h.image slots part r → IsLastBefore last time
-      → AreValues (drop front slots) time (schedule_of slots places) last values → MeetsRow r places front time values m.world → front_of part slots ≤ front
+      → AreValues (drop front slots) time (schedule_of slots places) last values → MeetsRow r places front time values m.words → front_of part slots ≤ front
       → HasMetAfter h.image slots part places n front
   meets r last values row is_last own met no_less =
       let there = subst (λ z. IsLastBefore last z) (sym met.time_is) is_last in
-      let others : AreValues (drop front slots) time (schedule_of slots r.choice) last r.values =
-      subst (λ f. AreValues (drop f slots) time (schedule_of slots r.choice) last r.values) met.front_is
-      (subst (λ z. AreValues (drop r.front slots) z (schedule_of slots r.choice) last r.values) met.time_is (row.values last there)) in
+      let others : AreValues (drop front slots) time (schedule_of slots r.choice) last row.values =
+      subst (λ f. AreValues (drop f slots) time (schedule_of slots r.choice) last row.values) met.front_is
+      (subst (λ z. AreValues (drop r.front slots) z (schedule_of slots r.choice) last row.values) met.time_is (row.are_values last there)) in
+      let parts = ahead_same row.values values row.encoded m.words (others.count ∙ sym own.count) (sym row.words ∙ met.words_are) in
+      let one = from.moment.encoded in
+      let other = row.is_encoded in
+      let same = sym one.are ∙ (sym parts.1 ∙ other.are) in
+      let many = one.seen.contents.fits.count ∙ (ap (λ i. length i.tasks + 1) (sym row.stands.image) ∙ sym other.seen.contents.fits.count) in
       let meeting : MeetThere time h row.held next = record {
         before = early_there;
-        alike = worlds_like h row.held m.world r.world (sym row.stands.image) from.moment.seen row.seen met.like;
+        alike = worlds_like h row.held one.world other.world (sym row.stands.image) one.seen other.seen (alike_by one.world other.world many same);
         none = none_there;
         none_other = subst (λ z. NoneSooner z (world_of row.held)) met.time_is row.none;
         blind = from.moment.blind;
@@ -85,30 +92,32 @@ module _ (slots : List Slot) (part : Part) (places : List ℕ) (h : HeldWorld) (
       } in
       let all =
       has_met h.image slots front time last r.choice places row.steps n h row.held next at.parted is_last row.within met.order
-      (agree_by (drop front slots) time (schedule_of slots places) (schedule_of slots r.choice) last values r.values own others met.values_are) from.stands
+      (agree_by (drop front slots) time (schedule_of slots places) (schedule_of slots r.choice) last values row.values own others parts.0) from.stands
       row.stands meeting in
       record { earlier = r.choice; time = time; last = last; steps = row.steps; met = all; is_of = row.is_of; no_less = no_less }
 
   -- the world is kept as a row
   pub row_of_it : (digested : KeptRow) (last : ℤ) (values : List ℤ) → digested.front ≡ front → digested.time ≡ time → digested.choice ≡ places
-      → digested.values ≡ values → digested.world ≡ m.world → IsLastBefore last time → AreValues (drop front slots) time (schedule_of slots places) last values
+      → digested.words ≡ values ++ m.words → IsLastBefore last time → AreValues (drop front slots) time (schedule_of slots places) last values
       → IsRow h.image slots part digested
-  row_of_it r last values front_is time_is choice_is values_are world_is is_last own = record {
+  row_of_it r last values front_is time_is choice_is words_are is_last own = record {
     held = h;
     steps = n;
     within = subst (AreWithin slots) (sym choice_is) from.within;
     is_of = subst (λ c. is_of_part part slots c ≡ true) (sym choice_is) from.is_of;
     stands = subst (λ c. StandsAfter n h.image (schedule_of slots c) h) (sym choice_is) from.stands;
-    seen = subst (IsSeenIn h) (sym world_is) from.moment.seen;
     none = subst (λ z. NoneSooner z (world_of h)) (sym time_is) none_there;
-    values =
+    values = values;
+    encoded = m.words;
+    words = words_are;
+    are_values =
         λ other before.
-        subst (λ f. AreValues (drop f slots) r.time (schedule_of slots r.choice) other r.values) (sym front_is)
-        (subst (λ z. AreValues (drop front slots) z (schedule_of slots r.choice) other r.values) (sym time_is)
-        (subst (λ c. AreValues (drop front slots) time (schedule_of slots c) other r.values) (sym choice_is)
-        (subst (AreValues (drop front slots) time (schedule_of slots places) other) (sym values_are)
+        subst (λ f. AreValues (drop f slots) r.time (schedule_of slots r.choice) other values) (sym front_is)
+        (subst (λ z. AreValues (drop front slots) z (schedule_of slots r.choice) other values) (sym time_is)
+        (subst (λ c. AreValues (drop front slots) time (schedule_of slots c) other values) (sym choice_is)
         (subst (λ z. AreValues (drop front slots) time (schedule_of slots places) z values)
-        (one_last last other is_last (subst (IsLastBefore other) time_is before)) own))));
+        (one_last last other is_last (subst (IsLastBefore other) time_is before)) own)));
+    is_encoded = from.moment.encoded;
   }
     where
       -- there is one last time before another
@@ -155,23 +164,6 @@ checkpoint_of slots until limit wanted places h m now left next front time pause
 }
 
 -- ---- rows and checkpoints among others
-
-pub row_at : (i : Sections) (slots : List Slot) (part : Part) (rows : List (Option KeptRow)) (place : ℕ) → AreKeptRows i slots part rows
-    → IsSomeRow i slots part (get_or rows place None)
-row_at i slots part [] place all = tt
-row_at i slots part (r ∷ rows) zero all = all.0
-row_at i slots part (r ∷ rows) (suc place) all = row_at i slots part rows place all.1
-
-pub row_set : (i : Sections) (slots : List Slot) (part : Part) (rows : List (Option KeptRow)) (place : ℕ) (r : KeptRow) → AreKeptRows i slots part rows
-    → IsRow i slots part r → AreKeptRows i slots part (set rows place (Some r))
-row_set i slots part [] place r all is = tt
-row_set i slots part (x ∷ rows) zero r all is = (is, all.1)
-row_set i slots part (x ∷ rows) (suc place) r all is = (all.0, row_set i slots part rows place r all.1 is)
-
-pub rows_with : (i : Sections) (slots : List Slot) (part : Part) (rows : List (Option KeptRow)) → AreKeptRows i slots part rows
-    → AreKeptRows i slots part (rows ++ None ∷ [])
-rows_with i slots part [] all = (tt, tt)
-rows_with i slots part (r ∷ rows) all = (all.0, rows_with i slots part rows all.1)
 
 module _ (i : Sections) (slots : List Slot) (until : ℤ) (limit : ℕ) (wanted : Wanted) where
   pub checkpoint_at : (cs : List KeptCheckpoint) (place : ℕ) (d : KeptCheckpoint) → place < length cs → AreCheckpoints i slots until limit wanted cs

@@ -7,6 +7,8 @@ mod Anew
 mod Merging
 mod Kept
 mod Crossed
+mod Encoded
 mod Along
 mod Resuming
+mod Rows
 mod Through

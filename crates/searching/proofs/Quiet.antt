@@ -6,7 +6,7 @@ use Rattle.std.proofs.lemmas.List.{append_assoc}
 use Rattle.base.specs.Schedule.{is_schedule}
 use Rattle.base.specs.declared.schedule.ScheduleLine.{ScheduleLine}
 use Rattle.kernel.specs.State as kernel
-use Rattle.kernel.specs.State.{Kernel, Line}
+use Rattle.kernel.specs.State.{Line}
 use Rattle.kernel.specs.Laws.{LeftUnmoved}
 use Rattle.image.specs.Code.{CodeWorld, code}
 use Rattle.image.specs.Sections.{Sections}

@@ -1,5 +1,5 @@
 -- What the search keeps of the worlds on its way, and what it says of the run that goes on from them; nobody has to believe this.
-use Rattle.std.specs.Prelude.{◌≡◌, ◌≢◌, ◌⊎◌, ℕ, ◌+◌, ◌-◌, ◌<◌, ◌≤◌, ℤ, pos, ◌<ℤ◌, ◌≤ℤ◌, int_le, int_lt, List, [], ◌∷◌, Option, Some, None, true, drop, get_or, IfSome, length, take}
+use Rattle.std.specs.Prelude.{◌≡◌, ◌≢◌, ◌⊎◌, ℕ, ◌+◌, ◌-◌, ◌<◌, ◌≤◌, ℤ, pos, ◌<ℤ◌, ◌≤ℤ◌, int_le, int_lt, List, [], ◌∷◌, ◌++◌, Option, Some, None, true, drop, get_or, IfSome, length, take}
 use Rattle.base.specs.Schedule.{input}
 use Rattle.base.specs.declared.limits.TheConstants.{CHANNELS}
 use Rattle.base.specs.declared.schedule.ScheduleLine.{ScheduleLine}
@@ -9,6 +9,7 @@ use Rattle.choices.specs.Slots.{Slot}
 use Rattle.choices.specs.Stepping.{IsEarlierInFront}
 use Rattle.choices.specs.declared.part.Part.{Part}
 use Rattle.clock.specs.declared.delays.Sleeper.{Sleeper as Row}
+use Rattle.execution.specs.Encoding.{contents_words, option_words}
 use Rattle.execution.specs.Held.{HeldWorld, Leads, tasks_in, world_of, world_with}
 use Rattle.execution.specs.Saving.{AreContentsOf, HeldContents}
 use Rattle.image.specs.Code.{code}
@@ -22,6 +23,7 @@ use Rattle.tasking.specs.declared.reports.Outcome.{Outcome as End}
 use Rattle.tasking.specs.declared.reports.Place.{Place as Stand}
 use Rattle.searching.specs.Judging.{JudgedOutcome}
 use Rattle.searching.specs.Meeting.{ArePartedAt, EndsBefore, HaveMet, IsAtEnd, IsSetAnew, StandsAfter, schedule_of}
+use Rattle.searching.specs.Encoding.{ended_words, place_words, sleeper_words}
 use Rattle.searching.specs.Searches.{AnswersRun, kernels}
 use Rattle.searching.specs.Sights.{HasLine, IsWanted, Written}
 use Rattle.searching.specs.declared.following.Followed.{Followed}
@@ -56,6 +58,19 @@ pub record IsSeenIn (h : HeldWorld) (w : SeenWorld) : Type 0 where
 abbrev pub rows_of : Option ℕ → ℕ → ℕ
 rows_of None count = count
 rows_of (Some a) count = count + 1
+
+-- a world as one row of words: first its time, the handler, the places and the sleepers
+abbrev pub standing_words : SeenWorld → List ℤ
+standing_words w = w.time ∷ option_words w.handler ++ ended_words place_words w.places ++ ended_words sleeper_words w.sleepers
+
+abbrev pub world_words : SeenWorld → List ℤ
+world_words w = standing_words w ++ contents_words (rows_of w.handler (length w.places)) w.contents
+
+-- the words are those of a world that is held
+pub record IsEncoded (h : HeldWorld) (words : List ℤ) : Type 0 where
+  pub world : SeenWorld
+  pub seen : IsSeenIn h world
+  pub are : words ≡ world_words world
 
 -- tasks are at the same places
 pub record ArePlacesAlike (stands others : List Stand) : Type 0 where
@@ -134,46 +149,46 @@ pub record KeptRow : Type 0 where
   pub front : ℕ
   pub time : ℤ
   pub choice : List ℕ
-  pub values : List ℤ
-  pub world : SeenWorld
+  pub words : List ℤ
 
--- the run on a choice of the part stands in this world just before the time, and the channels have these values then that count from there on
+-- the run on a choice of the part stands just before the time in a world, and the channels have values then that count from there on; the words are these
+-- values and those of the world
 pub record IsRow (i : Sections) (slots : List Slot) (part : Part) (r : KeptRow) : Type 0 where
   pub held : HeldWorld
   pub steps : ℕ
   pub within : AreWithin slots r.choice
   pub is_of : is_of_part part slots r.choice ≡ true
   pub stands : StandsAfter steps i (schedule_of slots r.choice) held
-  pub seen : IsSeenIn held r.world
   pub none : NoneSooner r.time (world_of held)
-  pub values : (last : ℤ) → IsLastBefore last r.time → AreValues (drop r.front slots) r.time (schedule_of slots r.choice) last r.values
+  pub values : List ℤ
+  pub encoded : List ℤ
+  pub words : r.words ≡ values ++ encoded
+  pub are_values : (last : ℤ) → IsLastBefore last r.time → AreValues (drop r.front slots) r.time (schedule_of slots r.choice) last values
+  pub is_encoded : IsEncoded held encoded
 
-abbrev pub IsSomeRow : Sections → List Slot → Part → Option KeptRow → Type 0
-IsSomeRow i slots part None = Unit {0}
-IsSomeRow i slots part (Some r) = IsRow i slots part r
-
-abbrev pub AreKeptRows : Sections → List Slot → Part → List (Option KeptRow) → Type 0
+abbrev pub AreKeptRows : Sections → List Slot → Part → List KeptRow → Type 0
 AreKeptRows i slots part [] = Unit {0}
-AreKeptRows i slots part (r ∷ rs) = IsSomeRow i slots part r × AreKeptRows i slots part rs
+AreKeptRows i slots part (r ∷ rs) = IsRow i slots part r × AreKeptRows i slots part rs
 
--- the row is of an earlier choice that differs in the front alone, and of the same world with the same values
-pub record MeetsRow (r : KeptRow) (choice : List ℕ) (front : ℕ) (time : ℤ) (values : List ℤ) (world : SeenWorld) : Type 0 where
+-- the row is of an earlier choice that differs in the front alone, and has these values and the words of the same world
+pub record MeetsRow (r : KeptRow) (choice : List ℕ) (front : ℕ) (time : ℤ) (values encoded : List ℤ) : Type 0 where
   pub front_is : r.front ≡ front
   pub time_is : r.time ≡ time
-  pub values_are : r.values ≡ values
-  pub like : AreLikeWorlds world r.world
+  pub words_are : r.words ≡ values ++ encoded
   pub order : IsEarlierInFront front r.choice choice
 
 -- ---- a step that passes the times of slots
 
--- a world, a copy of its tasks and objects if one was made, and the time of its next interrupt
+-- a world and its words, a copy of its tasks and objects if one was made, and the time of its next interrupt
 pub record KeptMoment : Type 0 where
   pub world : SeenWorld
+  pub words : List ℤ
   pub pause : Option Held
   pub next : Option ℤ
 
 pub record IsMomentOf (h : HeldWorld) (m : KeptMoment) : Type 0 where
   pub seen : IsSeenIn h m.world
+  pub encoded : IsEncoded h m.words
   pub pause : IfSome m.pause (IsPauseOf h)
   pub next : m.next ≡ time_ahead (kernel_of h.tasking).pending
   pub blind : ReadsNothing h.image (world_of h)

@@ -16,8 +16,8 @@ use choices::{Choice, Choices, Part, Slot};
 use clock::{Delays, Schedule};
 use dispatch::Ready;
 use execution::Execution;
-use processor::digest_with;
 use std::alloc::{AllocError, Global};
+use std::hash::{FoldHasher, Hasher};
 
 /// The number of first slots with which the run on a choice has met an earlier one, where its last step may have passed the times of the slots from `front` to
 /// `passed`. If it has met none, the world before the step is kept for later runs, to be met and to go on from.
@@ -133,12 +133,14 @@ fn is_met<R: Ready, D: Delays>(
     let last = last_before(time);
     let slots = choices.slots();
     let values = values_before(alloc, slots, front, time, schedule, last)?;
+    let given = values.as_slice();
+    let words = moment.words();
     let own = row_digest(moment.digest(), slots, front, time, schedule);
-    if table.has_met(own, choice, front, time, &values, moment.world()) {
+    if table.has_met(own, choice, front, time, given, words) {
         return Ok(true);
     }
-    let row = Row::new(alloc, own, front, time, choice, values, moment.world())?;
-    table.keep(row);
+    let row = Row::new(alloc, front, time, choice, given, words)?;
+    table.keep(own, row)?;
     Ok(false)
 }
 
@@ -224,12 +226,13 @@ pub(crate) fn meeting_front(slots: &[Slot], first: usize, front: usize) -> usize
 // The digest of a row, by that of its world.
 fn row_digest(world: u64, slots: &[Slot], front: usize, time: i64, schedule: &Schedule) -> u64 {
     let last = time.saturating_sub(1);
-    let mut digest = digest_with(world, front as u64);
+    let mut hasher = FoldHasher::default();
+    hasher.write_u64(world);
+    hasher.write_usize(front);
     for channel in 0..CHANNELS {
-        let value = value_before(slots, front, time, schedule, channel + 1, last);
-        digest = digest_with(digest, value.cast_unsigned());
+        hasher.write_i64(value_before(slots, front, time, schedule, channel + 1, last));
     }
-    digest
+    hasher.finish()
 }
 
 // The values of all channels at the last time before that of the slots after the first `front` ones, and 0 for those that get another by each alternative.

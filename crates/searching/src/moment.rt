@@ -6,7 +6,7 @@ ghost use Rattle.likeness.specs.Worlds.{ReadsNothing};
 ghost use Rattle.searching.specs.Following.{IsMomentOf, IsPauseOf, NoneBefore};
 
 use crate::crossing::{is_known, meeting_front};
-use crate::table::Table;
+use crate::table::{Table, digest_of};
 use crate::world::World;
 use choices::{Choices, Slot};
 use clock::{Delays, Schedule};
@@ -17,11 +17,12 @@ use std::alloc::{AllocError, Global};
 use std::marker::Model;
 use tasking::Pause;
 
-/// A world in which a run is, with its digest, a copy of its tasks and objects unless the table has the world, and the time of its next interrupt, before a
-/// step that reads no input.
+/// A world in which a run is, with its words and their digest, a copy of its tasks and objects unless the table has the world, and the time of its next
+/// interrupt, before a step that reads no input.
 #[derive(Drop)]
 pub(crate) struct Moment {
     world: World,
+    words: Vec<i64>,
     digest: u64,
     pause: Option<Box<Pause>>,
     next: Option<i64>,
@@ -33,7 +34,7 @@ impl Model for Moment {
 
     ghost Value = { KeptMoment };
 
-    ghost view = { λ m. record { world = m.world; pause = option_map (λ b. b.value) m.pause; next = m.next } };
+    ghost view = { λ m. record { world = m.world; words = m.words.items; pause = option_map (λ b. b.value) m.pause; next = m.next } };
 
     ghost invariant = { λ m. Unit {0} };
 }
@@ -67,13 +68,18 @@ impl Moment {
         let Some(world) = world else {
             return Ok(None);
         };
-        let digest = world.digest();
+        let words = world.words_of(alloc, execution)?;
+        let Some(words) = words else {
+            return Ok(None);
+        };
+        let digest = digest_of(words.as_slice());
         let is_known = is_known(slots, schedule, front, digest, table);
         let pause = pause_if_new(alloc, execution, is_known)?;
         let tasking = execution.tasking();
         let next = tasking.next_interrupt();
         Ok(Some(Moment {
             world,
+            words,
             digest,
             pause,
             next,
@@ -87,7 +93,14 @@ impl Moment {
         &self.world
     }
 
-    /// The digest of the world.
+    /// The words of the world.
+    pub(crate) fn words(&self) -> &[i64]
+        ensures { result.now ≡ self.now.words }
+    {
+        self.words.as_slice()
+    }
+
+    /// The digest of the words.
     pub(crate) fn digest(&self) -> u64 {
         self.digest
     }
@@ -99,6 +112,7 @@ impl Moment {
     {
         let Moment {
             world,
+            words: _,
             digest: _,
             pause,
             next: _,

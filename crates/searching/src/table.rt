@@ -1,31 +1,28 @@
-//! Worlds in which runs have been, by their digests. No proof relies on a digest: worlds are compared.
-ghost use Rattle.std.specs.Prelude.{◌≡◌, IfOk, IfSome, List, true};
+//! Worlds in which runs have been, by their digests. No proof relies on a digest: worlds are compared, word by word.
+ghost use Rattle.std.specs.Prelude.{◌≡◌, ◌++◌, IfOk, List, OnOk, true};
 ghost use Rattle.choices.specs.Parts.{is_of_part};
 ghost use Rattle.choices.specs.Slots.{Slot as SlotRow};
 ghost use Rattle.choices.specs.declared.part.Part.{Part as SetPart};
 ghost use Rattle.image.specs.Sections.{Sections};
 ghost use Rattle.searching.specs.Following.{AreKeptRows, IsRow, KeptRow, MeetsRow};
 
-use crate::world::World;
 use choices::Choice;
+use indexmap::IndexMap;
 use std::alloc::{AllocError, Global};
+use std::hash::{FoldHasher, Hasher};
 use std::marker::Model;
 
-// How many words the rows may have together, where a world has some 64.
-const WORDS: usize = 16_777_216;
+// How many words all rows may have together, 512 MB: beyond that all rows are left out.
+const WORDS: usize = 67_108_864;
 
-// How many rows there are at most.
-const ROWS: usize = 65_536;
-
-/// The world in which the run on a choice is just before the time of the slots after the first `front` ones, and the last values of the channels before it.
+/// The words of the world in which the run on a choice is just before the time of the slots after the first `front` ones, after the last values of the channels
+/// before it.
 #[derive(Drop)]
 pub(crate) struct Row {
-    digest: u64,
     front: usize,
     time: i64,
     choice: Choice,
-    values: Vec<i64>,
-    world: Box<World>,
+    words: Vec<i64>,
 }
 
 impl Model for Row {
@@ -33,36 +30,35 @@ impl Model for Row {
 
     ghost Value = { KeptRow };
 
-    ghost view = { λ r. record { front = r.front; time = r.time; choice = r.choice; values = r.values.items; world = r.world.value } };
+    ghost view = { λ r. record { front = r.front; time = r.time; choice = r.choice; words = r.words.items } };
 
     ghost invariant = { λ r. Unit {0} };
 }
 
 impl Row {
-    /// The row of the run on a choice with this digest.
+    /// The row of the run on a choice, with these values of the channels and the words of its world, in as much memory as they need.
     ///
     /// # Errors
     /// Where memory was refused.
     pub(crate) fn new(
         alloc: Global,
-        digest: u64,
         front: usize,
         time: i64,
         choice: &Choice,
-        values: Vec<i64>,
-        world: &World,
+        values: &[i64],
+        encoded: &[i64],
     ) -> Result<Row, AllocError>
-        ensures { IfOk result (λ r. r ≡ record { front = front; time = time; choice = choice.now; values = values.items; world = world.now }) }
+        ensures { IfOk result (λ r. r ≡ record { front = front; time = time; choice = choice.now; words = values.now ++ encoded.now }) }
     {
         let choice = choice.copy()?;
-        let world = Box::new(alloc, world.copy(alloc)?)?;
+        let mut words = Vec::with_capacity(alloc, values.len().saturating_add(encoded.len()))?;
+        words.extend_from_slice(values)?;
+        words.extend_from_slice(encoded)?;
         Ok(Row {
-            digest,
             front,
             time,
             choice,
-            values,
-            world,
+            words,
         })
     }
 
@@ -73,9 +69,9 @@ impl Row {
         front: usize,
         time: i64,
         values: &[i64],
-        world: &World,
+        encoded: &[i64],
     ) -> bool
-        ensures { result ≡ true → MeetsRow self.now choice.now front time values.now world.now }
+        ensures { result ≡ true → MeetsRow self.now choice.now front time values.now encoded.now }
     {
         if self.front != front {
             return false;
@@ -83,55 +79,73 @@ impl Row {
         if self.time != time {
             return false;
         }
-        if !are_same(self.values.as_slice(), values) {
-            return false;
-        }
-        if !world.is_like(&self.world) {
+        if !are_joined(self.words.as_slice(), values, encoded) {
             return false;
         }
         self.choice.is_earlier_in_front(choice, front)
     }
 }
 
-// Whether values are the same.
+// Whether words are these values and those after them.
+fn are_joined(words: &[i64], values: &[i64], encoded: &[i64]) -> bool
+    ensures { result ≡ true → words.now ≡ values.now ++ encoded.now }
+{
+    let count = values.len();
+    if words.len() < count {
+        return false;
+    }
+    if !are_same(&words[..count], values) {
+        return false;
+    }
+    are_same(&words[count..], encoded)
+}
+
+// Whether words are the same.
 fn are_same(values: &[i64], others: &[i64]) -> bool
     ensures { result ≡ true → values.now ≡ others.now }
 {
     values == others
 }
 
-/// The latest row for each remainder of digests.
+/// A digest of words.
+pub(crate) fn digest_of(words: &[i64]) -> u64 {
+    let mut hasher = FoldHasher::default();
+    for word in words {
+        hasher.write_i64(*word);
+    }
+    hasher.finish()
+}
+
+/// Rows by their digests.
 #[derive(Drop)]
 pub(crate) struct Table {
-    rows: Vec<Option<Row>>,
+    rows: IndexMap<u64, Row>,
+    words: usize,
     count: u64,
 }
 
 impl Model for Table {
-    ghost use Rattle.std.specs.Prelude.{List, Option};
+    ghost use Rattle.std.specs.Prelude.{List};
+    ghost use Rattle.indexmap.specs.IndexMap.{values};
     ghost use Rattle.searching.specs.Following.{KeptRow};
 
-    ghost Value = { List (Option KeptRow) };
+    ghost Value = { List KeptRow };
 
-    ghost view = { λ t. t.rows.items };
+    ghost view = { λ t. values t.rows };
 
     ghost invariant = { λ t. Unit {0} };
 }
 
 impl Table {
-    /// No rows, for sets with so many slots.
-    ///
-    /// # Errors
-    /// Where memory was refused.
-    pub(crate) fn new(alloc: Global, slots: usize) -> Result<Table, AllocError>
-        ensures { IfOk result (λ table. (i : Sections) (set : List SlotRow) (part : SetPart) → AreKeptRows i set part table) }
+    /// No rows.
+    pub(crate) fn new(alloc: Global) -> Table
+        ensures { (i : Sections) (set : List SlotRow) (part : SetPart) → AreKeptRows i set part result }
     {
-        let count = (WORDS / slots.saturating_add(64)).min(ROWS);
-        let mut rows = Vec::new(alloc);
-        while rows.len() < count {
-            rows.push(None)?;
+        Table {
+            rows: IndexMap::new(alloc),
+            words: 0,
+            count: 0,
         }
-        Ok(Table { rows, count: 0 })
     }
 
     /// Whether the run on a choice has met one that the table has with this digest. `false` doesn't say that it hasn't.
@@ -142,64 +156,49 @@ impl Table {
         front: usize,
         time: i64,
         values: &[i64],
-        world: &World,
+        encoded: &[i64],
     ) -> bool
         ensures { result ≡ true → (i : Sections) (slots : List SlotRow) (part : SetPart) → AreKeptRows i slots part self.now
-            → (row : KeptRow) × IsRow i slots part row × MeetsRow row choice.now front time values.now world.now }
+            → (row : KeptRow) × IsRow i slots part row × MeetsRow row choice.now front time values.now encoded.now }
     {
-        let Some(row) = row_at(self.rows.as_slice(), self.place(digest)) else {
+        let Some(row) = self.rows.get(&digest) else {
             return false;
         };
-        if row.digest != digest {
-            return false;
-        }
-        row.is_met(choice, front, time, values, world)
+        row.is_met(choice, front, time, values, encoded)
     }
 
     /// Whether it has a row with this digest.
     pub(crate) fn has_digest(&self, digest: u64) -> bool {
-        match row_at(self.rows.as_slice(), self.place(digest)) {
-            None => false,
-            Some(row) => row.digest == digest,
-        }
+        self.rows.contains_key(&digest)
     }
 
-    /// How many rows have been kept, with those in whose place a later one is.
+    /// How many rows have been kept, with those that were left out.
     pub(crate) fn count(&self) -> u64 {
         self.count
     }
 
-    /// Keeps a row in place of what has the same remainder.
-    pub(crate) fn keep(&mut self, row: Row)
-        ensures { (i : Sections) (slots : List SlotRow) (part : SetPart) → AreKeptRows i slots part self.old → IsRow i slots part row
-            → AreKeptRows i slots part self.new }
+    /// Keeps a row with this digest, in place of one with the same digest.
+    ///
+    /// # Errors
+    /// Where memory was refused.
+    pub(crate) fn keep(&mut self, digest: u64, row: Row) -> Result<(), AllocError>
+        ensures { OnOk result ((i : Sections) (slots : List SlotRow) (part : SetPart) → AreKeptRows i slots part self.old → IsRow i slots part row
+            → AreKeptRows i slots part self.new) }
     {
-        let place = self.place(row.digest);
-        if self.rows.len() <= place {
-            return;
-        }
+        self.make_room(row.words.len());
         self.count = self.count.saturating_add(1);
-        self.rows[place] = Some(row);
+        self.rows.insert(digest, row)?;
+        Ok(())
     }
 
-    // The place of a digest.
-    fn place(&self, digest: u64) -> usize {
-        if self.rows.is_empty() {
-            return 0;
+    // Leaves out all rows, where so many words more would be too many.
+    fn make_room(&mut self, words: usize)
+        ensures { (i : Sections) (slots : List SlotRow) (part : SetPart) → AreKeptRows i slots part self.old → AreKeptRows i slots part self.new }
+    {
+        self.words = self.words.saturating_add(words);
+        if WORDS < self.words {
+            self.rows.clear();
+            self.words = words;
         }
-        (digest % self.rows.len() as u64) as usize
-    }
-}
-
-// The row at a place, if there is one.
-fn row_at(rows: &[Option<Row>], place: usize) -> Option<&Row>
-    ensures { IfSome result (λ row. (i : Sections) (slots : List SlotRow) (part : SetPart) → AreKeptRows i slots part rows.now → IsRow i slots part row.now) }
-{
-    let Some(kept) = rows.get(place) else {
-        return None;
-    };
-    match kept {
-        Some(row) => Some(row),
-        None => None,
     }
 }

@@ -63,7 +63,8 @@ pub fn search<P: Progress, L: Ledger>(
     ensures answer { IfOk result (Searches image.now choices.now part until limit wanted.entry) }
     ensures first { IfOk result (FindsFirst image.now choices.now part until limit wanted.entry) }
 {
-    let mut table = Table::new(alloc, choices.slots().len())?;
+    let _slots = choices.slots();
+    let mut table = Table::new(alloc);
     let mut path = Path::new(alloc);
     let mut rooms = None;
     let mut choice = Choice::first(alloc, choices)?;

@@ -1,16 +1,20 @@
 //! Worlds in which runs are, kept for others to be compared with them.
-ghost use Rattle.std.specs.Prelude.{◌≡◌, ◌≢◌, IfOk, IfSome, false, length, true};
+ghost use Rattle.std.specs.Prelude.{◌≡◌, ◌≢◌, ◌++◌, IfOk, IfSome, OnOk, false, flat_map, length};
+ghost use Rattle.execution.specs.Encoding.{option_words};
 ghost use Rattle.kernel.specs.State.{IsReady};
-ghost use Rattle.searching.specs.Following.{AreLikeWorlds, ArePlacesAlike, IsSeenIn, StandThere, rows_of};
+ghost use Rattle.searching.specs.Encoding.{ended_words, place_words, sleeper_words};
+ghost use Rattle.searching.specs.Following.{IsEncoded, IsSeenIn, StandThere, rows_of, standing_words};
 ghost use Rattle.tasking.specs.Held.{place_of};
 
 use clock::{Delays, Sleeper};
 use dispatch::Ready;
 use execution::{Contents, Execution};
-use processor::digest_with;
 use std::alloc::{AllocError, Global};
 use std::marker::Model;
 use tasking::{Place, Tasking};
+
+// How many words there is room for at first.
+const ROOM: usize = 128;
 
 /// A world in which no task is ready and there is no outcome, without the interrupts that are pending and the lines that were written.
 #[derive(Drop)]
@@ -65,25 +69,6 @@ impl World {
         }))
     }
 
-    /// Another copy.
-    ///
-    /// # Errors
-    /// Where memory was refused.
-    pub(crate) fn copy(&self, alloc: Global) -> Result<World, AllocError>
-        ensures { IfOk result (λ world. world ≡ self.now) }
-    {
-        let places = copied_places(alloc, self.places.as_slice())?;
-        let sleepers = copied_sleepers(alloc, self.sleepers.as_slice())?;
-        let contents = self.contents.copy(alloc)?;
-        Ok(World {
-            time: self.time,
-            handler: self.handler,
-            places,
-            sleepers,
-            contents,
-        })
-    }
-
     /// Its time, in microseconds since the start.
     pub(crate) fn time(&self) -> i64
         ensures { result ≡ self.now.time }
@@ -98,23 +83,36 @@ impl World {
         &self.contents
     }
 
-    /// Whether another world is the same. `false` doesn't say that it isn't.
-    pub(crate) fn is_like(&self, other: &World) -> bool
-        ensures { result ≡ true → AreLikeWorlds self.now other.now }
+    /// The words of the world in which a run is, if they can be counted, where this is that world.
+    ///
+    /// # Errors
+    /// Where memory was refused.
+    pub(crate) fn words_of<R: Ready, D: Delays>(
+        &self,
+        alloc: Global,
+        execution: &Execution<'_, '_, R, D>,
+    ) -> Result<Option<Vec<i64>>, AllocError>
+        ensures { IfOk result (λ words. IfSome words (λ v. IsSeenIn execution.now self.now → IsEncoded execution.now v.items)) }
     {
-        if self.time != other.time {
-            return false;
+        let mut words = self.standing(alloc)?;
+        let rows = self.rows();
+        let are_added = execution.add_contents(alloc, rows, &mut words)?;
+        if !are_added {
+            return Ok(None);
         }
-        if self.handler != other.handler {
-            return false;
-        }
-        if !have_same_places(self.places.as_slice(), other.places.as_slice()) {
-            return false;
-        }
-        if !have_same_sleepers(self.sleepers.as_slice(), other.sleepers.as_slice()) {
-            return false;
-        }
-        self.contents.is_like(&other.contents, self.rows())
+        Ok(Some(words))
+    }
+
+    // The words of its time, handler, places and sleepers.
+    fn standing(&self, alloc: Global) -> Result<Vec<i64>, AllocError>
+        ensures { IfOk result (λ words. words.items ≡ standing_words self.now) }
+    {
+        let mut words = Vec::with_capacity(alloc, ROOM)?;
+        words.push(self.time)?;
+        add_handler(&mut words, self.handler)?;
+        add_places(&mut words, self.places.as_slice())?;
+        add_sleepers(&mut words, self.sleepers.as_slice())?;
+        Ok(words)
     }
 
     // How many rows of frames count: those of the tasks, and one more where a handler runs.
@@ -126,19 +124,6 @@ impl World {
         } else {
             self.places.len()
         }
-    }
-
-    /// A digest of the world.
-    pub(crate) fn digest(&self) -> u64 {
-        let mut digest = self.contents.digest(self.time.cast_unsigned(), self.rows());
-        for sleeper in &self.sleepers {
-            digest = digest_with(digest, sleeper.wake.cast_unsigned());
-            digest = digest_with(digest, u64::from(sleeper.task));
-        }
-        for place in &self.places {
-            digest = digest_with(digest, number_of(*place));
-        }
-        digest
     }
 }
 
@@ -177,15 +162,6 @@ fn is_ready(place: Place) -> bool
     }
 }
 
-// A copy of places.
-fn copied_places(alloc: Global, places: &[Place]) -> Result<Vec<Place>, AllocError>
-    ensures { IfOk result (λ copied. copied.items ≡ places.now) }
-{
-    let mut copied = Vec::new(alloc);
-    copied.extend_from_slice(places)?;
-    Ok(copied)
-}
-
 // A copy of sleepers.
 fn copied_sleepers(alloc: Global, sleepers: &[Sleeper]) -> Result<Vec<Sleeper>, AllocError>
     ensures { IfOk result (λ copied. copied.items ≡ sleepers.now) }
@@ -195,55 +171,80 @@ fn copied_sleepers(alloc: Global, sleepers: &[Sleeper]) -> Result<Vec<Sleeper>, 
     Ok(copied)
 }
 
-// Whether places are the same, one after the other.
-fn have_same_places(places: &[Place], others: &[Place]) -> bool
-    ensures { result ≡ true → ArePlacesAlike places.now others.now }
+// Adds the words of who handles an interrupt, if somebody does.
+#[tactic(auto, unfolding(execution::specs::Encoding::option_words))]
+fn add_handler(out: &mut Vec<i64>, handler: Option<u8>) -> Result<(), AllocError>
+    ensures { OnOk result (out.new.items ≡ out.old.items ++ option_words handler) }
 {
-    if places.len() != others.len() {
-        return false;
-    }
-    let mut at = 0;
-    while at < places.len() {
-        let one = places[at];
-        let other = others[at];
-        if !is_same_place(one, other) {
-            return false;
+    match handler {
+        None => out.push(0)?,
+        Some(handler) => {
+            out.push(1)?;
+            out.push(i64::from(handler))?;
         }
-        at += 1;
     }
-    true
+    Ok(())
 }
 
-// Whether two places are the same.
-fn is_same_place(one: Place, other: Place) -> bool
-    ensures { result ≡ true → place_of one ≡ place_of other }
+// Adds the words of all places.
+fn add_places(out: &mut Vec<i64>, places: &[Place]) -> Result<(), AllocError>
+    ensures { OnOk result (out.new.items ≡ out.old.items ++ ended_words place_words places.now) }
 {
-    match (one, other) {
-        (Place::Running, Place::Running) => true,
-        (Place::Ready, Place::Ready) => true,
-        (Place::Asleep, Place::Asleep) => true,
-        (Place::Finished, Place::Finished) => true,
-        (Place::Queued(object), Place::Queued(another)) => object == another,
-        (Place::Served(object), Place::Served(another)) => object == another,
-        _ => false,
-    }
+    add_each_place(out, places)?;
+    out.push(0)?;
+    Ok(())
 }
 
-// Whether the same tasks sleep, up to the same times and in the same order.
-fn have_same_sleepers(sleepers: &[Sleeper], others: &[Sleeper]) -> bool
-    ensures { result ≡ true → sleepers.now ≡ others.now }
+fn add_each_place(out: &mut Vec<i64>, places: &[Place]) -> Result<(), AllocError>
+    ensures { OnOk result (out.new.items ≡ out.old.items ++ flat_map place_words places.now) }
 {
-    sleepers == others
+    for place in places {
+        add_place(out, *place)?;
+    }
+    Ok(())
 }
 
-// A number of its own for each place.
-fn number_of(place: Place) -> u64 {
-    match place {
-        Place::Running => 0,
-        Place::Ready => 1,
-        Place::Asleep => 2,
-        Place::Finished => 3,
-        Place::Queued(object) => 4 + u64::from(object),
-        Place::Served(object) => 512 + u64::from(object),
+#[tactic(auto, unfolding(crate::specs::Encoding::place_words))]
+fn add_place(out: &mut Vec<i64>, place: Place) -> Result<(), AllocError>
+    ensures { OnOk result (out.new.items ≡ out.old.items ++ place_words place) }
+{
+    let (number, object) = match place {
+        Place::Running => (1, 0),
+        Place::Ready => (2, 0),
+        Place::Asleep => (3, 0),
+        Place::Finished => (4, 0),
+        Place::Queued(object) => (5, object),
+        Place::Served(object) => (6, object),
+    };
+    out.push(number)?;
+    out.push(i64::from(object))?;
+    Ok(())
+}
+
+// Adds the words of all sleepers.
+fn add_sleepers(out: &mut Vec<i64>, sleepers: &[Sleeper]) -> Result<(), AllocError>
+    ensures { OnOk result (out.new.items ≡ out.old.items ++ ended_words sleeper_words sleepers.now) }
+{
+    add_each_sleeper(out, sleepers)?;
+    out.push(0)?;
+    Ok(())
+}
+
+fn add_each_sleeper(out: &mut Vec<i64>, sleepers: &[Sleeper]) -> Result<(), AllocError>
+    ensures { OnOk result (out.new.items ≡ out.old.items ++ flat_map sleeper_words sleepers.now) }
+{
+    for sleeper in sleepers {
+        add_sleeper(out, *sleeper)?;
     }
+    Ok(())
+}
+
+#[tactic(auto, unfolding(crate::specs::Encoding::sleeper_words))]
+fn add_sleeper(out: &mut Vec<i64>, sleeper: Sleeper) -> Result<(), AllocError>
+    ensures { OnOk result (out.new.items ≡ out.old.items ++ sleeper_words sleeper) }
+{
+    out.push(1)?;
+    out.push(i64::from(sleeper.task))?;
+    out.push(sleeper.wake)?;
+    Ok(())
 }

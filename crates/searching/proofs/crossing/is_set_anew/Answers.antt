@@ -1,4 +1,4 @@
-use Rattle.std.proofs.Common.{◌≡◌, ◌<◌, ◌≤◌, arith, get_or, length, of_z, rules, subst, to_z, w64}
+use Rattle.std.proofs.Common.{◌≡◌, ◌<◌, arith, get_or, length, of_z, rules, subst, to_z, w64}
 use Rattle.searching.specs.Meeting.{SetsAnew}
 use Rattle.searching.proofs.Anew.{set_behind}
 use Rattle.searching.proofs.crossing.is_set_anew.Goals as goal

@@ -13,7 +13,7 @@ loop-is_more-init g c = (
   through_first c.args.image.now c.args.choices.now c.args.part (to_z w64 (of_z w64 c.args.until)) c.args.limit c.args.wanted c.in_ok-choice.choice c.in_ok-choice.ensures.first
       c.in_ok-choice.ensures.within,
   subst (AreCheckpoints c.args.image.now c.args.choices.now (to_z w64 (of_z w64 c.args.until)) c.args.limit c.args.wanted) (sym c.new-path.ensures) tt,
-  c.in_ok-table.ensures c.args.image.now c.args.choices.now c.args.part,
+  c.new-table.ensures c.args.image.now c.args.choices.now c.args.part,
   tt,
 )
 
@@ -44,7 +44,7 @@ loop-is_more-smaller g c =
     subst (λ b. runs_left c.args.choices.now c.advance-is_more.result c.advance-is_more.new.self < runs_left c.args.choices.now b c.loop-is_more.choice)
     (sym c.loop-is_more-test.true)
     (fewer_passed c.args.choices.now c.advance-is_more.result c.loop-is_more.choice c.pass.new.choice c.advance-is_more.new.self
-    (each_lawful c.args.choices.now c.slots.ensures.lawful) (c.in_ok-found.ensures.passed c.in-None.is).fewer c.advance-is_more.ensures)
+    (each_lawful c.args.choices.now c.slots-slots.ensures.lawful) (c.in_ok-found.ensures.passed c.in-None.is).fewer c.advance-is_more.ensures)
 
 pub loop-is_more-preserved : goal.loop-is_more-preserved
 loop-is_more-preserved g c =
