@@ -120,6 +120,8 @@ CALLS = [
     (["check", "-"], ["-"]),
     (["format", "main.adb"], ["main.adb"]),
     (["format", "-"], ["-"]),
+    (["lower", "main.adb"], ["main.adb"]),
+    (["lower", "-"], ["-"]),
     (["trace", "main.adb", "lines", "100000"], ["main.adb", "lines"]),
     (["trace", "--vcd", "main.adb", "lines", "100000"], ["main.adb", "lines"]),
     (["trace", "--vcd", "--time", "main.adb", "lines", "100000"], ["main.adb", "lines"]),

@@ -44,6 +44,7 @@ CALLS = [
     ["simulate", "ends.adb", "empty", "3"],
     ["check", "faulty.adb"],
     ["format", "misspelled.adb"],
+    ["lower", "misspelled.adb"],
 ]
 # What is written where nothing is reported.
 SILENT = [["go", "ends.adb", "empty", "100000"], ["simulate", "ends.adb"], ["check", "ends.adb"], ["compile", "ends.adb", "new.img"], ["version"]]

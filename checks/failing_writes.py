@@ -69,6 +69,7 @@ FIRST_LINES = [
     (["list", "every.img"], "stdout"),
     (["search", "long.adb", "many", "20000", "100000", "line", "n"], "stdout"),
     (["format", "nulls.adb"], "stdout"),
+    (["lower", "lines.adb"], "stdout"),
     (["check", "faults.adb"], "stderr"),
 ]
 
@@ -172,6 +173,7 @@ def calls_of_commands(program, folder):
         ["search", "--quiet", "tank.adb", "choices", "20000", "1000", "waits", "--part", "1/2"],
         ["explain", "6", "tank.adb"],
         ["format", "tank.adb"],
+        ["lower", "tank.adb"],
         ["manual"],
         ["version"],
     ]
@@ -199,7 +201,7 @@ def first_line(program, folder, words, stream):
 def first_lines(program, folder):
     """How many calls whose reader goes after the first line there are, and what is wrong of them."""
     full = full_programs.nested()[0].encode()
-    for name, data in (("long.adb", LONG), ("full.adb", full), ("faults.adb", FAULTS), ("nulls.adb", b"null;\n" * PIPE), ("many", b"0..4095/1 1 5\n")):
+    for name, data in (("long.adb", LONG), ("full.adb", full), ("faults.adb", FAULTS), ("nulls.adb", b"null;\n" * PIPE), ("lines.adb", b"procedure P is begin\n" + b"null;\n" * PIPE + b"end P;\n"), ("many", b"0..4095/1 1 5\n")):
         write(folder, name, data)
     subprocess.run([program, "compile", "long.adb", "long.img"], cwd=folder, check=True)
     images = os.path.join(os.path.dirname(os.path.abspath(__file__)), "images.py")

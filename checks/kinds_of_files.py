@@ -39,6 +39,7 @@ COMMANDS = [
     ("lines", ["simulate", "source", FILE]),
     ("faulty", ["check", FILE]),
     ("source", ["format", FILE]),
+    ("source", ["lower", FILE]),
     ("source", ["trace", FILE, "lines", "100000"]),
     ("lines", ["trace", "source", FILE, "100000"]),
     ("source", ["trace", "--vcd", FILE, "lines", "100000"]),
@@ -225,7 +226,7 @@ class Command:
 
     def try_standard_input(self):
         """Standard input by the word `-`, of commands that know it."""
-        if self.words[0] not in ("simulate", "check", "format", "search") or self.words[1] != FILE:
+        if self.words[0] not in ("simulate", "check", "format", "lower", "search") or self.words[1] != FILE:
             return
         self.unreadable("standard input that is closed", "-", stdin=None, preexec_fn=lambda: os.close(0))
         folder = os.open(self.folder.path("folder"), os.O_RDONLY)

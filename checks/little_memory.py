@@ -44,6 +44,7 @@ def calls_of_large(program, folder):
         ("simulate of a long text", ["simulate", "main.adb"], long),
         ("check of a long text", ["check", "main.adb"], long),
         ("format of a long text", ["format", "main.adb"], long),
+        ("lower of a long text", ["lower", "main.adb"], long),
         ("check of 1,000 faults", ["check", "main.adb"], faulty),
         ("go of 1,000 faults", ["go", "main.adb", "empty", "1"], {**faulty, **EMPTY}),
     ]

@@ -111,6 +111,7 @@ class Checks:
         self.expect(["simulate", "--", "-", "empty"], ENDED, SOURCE)
         self.expect(["check", "-"], (b"", b"", 0), SOURCE)
         self.expect(["format", "-"], (SOURCE, b"", 0), SOURCE)
+        self.expect(["lower", "-"], (SOURCE, b"", 0), SOURCE)
         self.expect(["search", "-", "empty", "0", "100"], (b"none of 1 schedules, 0 worlds\n", b"", 0), SOURCE)
         self.expect(["search", "-", "empty", "0", "100"], (b"", b"fault 6 at 2:25\n", 2), REFUSED)
         self.expect(["go", "-", "empty", "100"], (b"", b"cannot read -\n", 1), SOURCE)

@@ -125,10 +125,13 @@ def calls_of_commands(program, folder):
     tank = example("tank")[0]
     schedule, choices = content(os.path.join(HERE, "..", "examples", "tank.schedule")), b"0 1 50|90\n8000 1 70|-\n"
     files = {"main.adb": tank, "input": schedule}
+    whole_ada = b"package Q is\n   A, B : Integer := 16#F#;\n   procedure F;\n   pragma Inline (F);\nend;\n"
     calls = [
         ("check", ["check", "main.adb"], files, None),
         ("check of a text with faults", ["check", "main.adb"], {"main.adb": faulty}, None),
         ("format", ["format", "main.adb"], files, None),
+        ("lower", ["lower", "main.adb"], {"main.adb": whole_ada}, None),
+        ("lower of a refused text", ["lower", "main.adb"], {"main.adb": b"procedure Main is begin select null; end select; end Main;\n"}, None),
         ("simulate", ["simulate", "main.adb", "input"], files, None),
         ("simulate of a refused text", ["simulate", "main.adb"], {"main.adb": faulty}, (b"", b"fault 18 at 2:9\n", 2)),
         ("simulate of a run that waits", ["simulate", "main.adb"], {"main.adb": entry}, (lines, b"", status)),

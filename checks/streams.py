@@ -69,6 +69,7 @@ def writing(checks):
         ["list", image],
         ["run", image, EMPTY_SCHEDULE, STEPS],
         ["format", EXAMPLE],
+        ["lower", EXAMPLE],
         ["explain", "12"],
         ["explain", "12", EXAMPLE],
         ["manual"],
@@ -139,6 +140,6 @@ def terminals(checks):
         checks.expect(f"{name} with /dev/null as standard output", left, expected.status, "", expected.err)
     with open(EXAMPLE, "rb") as file:
         text = file.read()
-    for command in ("simulate", "check", "format"):
+    for command in ("simulate", "check", "format", "lower"):
         expected = call(checks.program, command, EXAMPLE)
         checks.expect(f"{command} of a text that is typed", typed(text, checks.program, command, "-"), expected.status, expected.out, expected.err)

@@ -3,7 +3,7 @@ _adarun() {
     local word=${COMP_WORDS[COMP_CWORD]}
     COMPREPLY=()
     if [ "$COMP_CWORD" = 1 ]; then
-        mapfile -t COMPREPLY < <(compgen -W "simulate check format go trace measure search compile list run explain manual version" -- "$word")
+        mapfile -t COMPREPLY < <(compgen -W "simulate check format lower go trace measure search compile list run explain manual version" -- "$word")
     elif [ "${COMP_WORDS[1]}" = trace ] && [ "$COMP_CWORD" = 2 ] && [[ $word == -* ]]; then
         mapfile -t COMPREPLY < <(compgen -W "--vcd --chart --svg" -- "$word")
     elif [ "${COMP_WORDS[1]}" = trace ] && [ "${COMP_WORDS[2]}" = --vcd ] && [ "$COMP_CWORD" = 3 ] && [[ $word == -* ]]; then

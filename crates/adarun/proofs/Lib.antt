@@ -15,6 +15,7 @@ mod Driving
 mod SearchCommand
 mod MeasureCommand
 mod Formatting
+mod Lowering
 mod Refuted
 mod Explaining
 mod Every

@@ -21,7 +21,7 @@ use Rattle.adarun.specs.Reading.{IsBeginningRead, IsContentRead}
 use Rattle.adarun.specs.TextFaults.{AreTextFaults}
 
 -- fewer bytes than were asked for are all that there are
-whole : (content : Option (List ℕ)) (most : ℕ) (text : List ℕ) → IsBeginningRead content most text → length text < most → IsContentRead content text
+pub whole : (content : Option (List ℕ)) (most : ℕ) (text : List ℕ) → IsBeginningRead content most text → length text < most → IsContentRead content text
 whole None most text read short = tt
 whole (Some content) most text read short =
     let few : length (take most content) < most = subst (λ t. length t < most) read short in

@@ -47,12 +47,13 @@ use Rattle.variable_places.specs.Shown.{program_scopes}
 use Rattle.waveforms.specs.Scopes.{Scopes}
 use Rattle.waveforms.specs.TimeWaves.{time_waves_text}
 use Rattle.waveforms.specs.Waves.{waves_text}
-use Rattle.command_line.specs.Words.{CheckText, Command, CompileText, ExplainFault, ExplainText, FormatText, GoText, ListImage, MeasureSet, Nothing, RunImage, ShowManual, ShowVersion, SearchText, SimulateText, TraceText, asked, is_told}
+use Rattle.command_line.specs.Words.{CheckText, Command, CompileText, ExplainFault, ExplainText, FormatText, GoText, ListImage, LowerText, MeasureSet, Nothing, RunImage, ShowManual, ShowVersion, SearchText, SimulateText, TraceText, asked, is_told}
 use Rattle.command_line.specs.Words as words_of
 use Rattle.adarun.specs.Accepted.{Compiles, RefusesText}
 use Rattle.adarun.specs.CodeTold.{IsCodeTold}
 use Rattle.adarun.specs.Formatting.{LeavesFormat}
 use Rattle.adarun.specs.Headline.{Runs, WritesBeginning, WritesItsMeaning}
+use Rattle.adarun.specs.Lowering.{LeavesLowered}
 use Rattle.adarun.specs.Naming.{names_alone, object_names}
 use Rattle.adarun.specs.Operations.{subprogram_names}
 use Rattle.adarun.specs.Origins.{known_in}
@@ -645,6 +646,8 @@ LeavesWritten (ExplainText number source) standard_input before after status old
 LeavesWritten (CheckText source) standard_input before after status old new = AreFilesKept before after × (new ≡ old)
 LeavesWritten (FormatText source) standard_input before after status old new = AreFilesKept before after
     × LeavesFormat (with_input standard_input before) source status old new
+LeavesWritten (LowerText source) standard_input before after status old new = AreFilesKept before after
+    × LeavesLowered (with_input standard_input before) source status old new
 LeavesWritten (SimulateText source schedule limit until) standard_input before after status old new = AreFilesKept before after
     × LeavesSimulate (with_input standard_input before) source (input_of before schedule) until limit status old new
 LeavesWritten (MeasureSet source choices until limit is_fields) standard_input before after status old new = AreFilesKept before after

@@ -15,5 +15,6 @@ pub mod Searching
 pub mod FirstFound
 pub mod Reading
 pub mod Formatting
+pub mod Lowering
 pub mod Driving
 pub mod Explaining

@@ -10,6 +10,7 @@ mod going;
 mod inputs;
 mod last_reports;
 pub mod laws;
+mod lower_command;
 mod measure_command;
 mod messages;
 mod naming;

@@ -10,6 +10,7 @@ use crate::compilation::compile;
 use crate::files::{FileStore, ReadError, WriteError, read_source};
 use crate::format_command::drive_format;
 use crate::going::{GoFault, go};
+use crate::lower_command::drive_lower;
 use crate::measure_command::drive_measures;
 use crate::messages::{
     cannot_write, no_memory, refuse_image, refuse_schedule, refuse_source, report_ending,
@@ -53,11 +54,11 @@ pub enum Status {
 /// `simulate` several; `check` writes to `err` alone, which was given the report of every fault of the source under status 2, and nothing under status 0. It
 /// answers the exit status. Where a run came to an outcome, `out` was given its text (`go`, `simulate`, `run`), or the view of it that was asked for (`trace`,
 /// `measure`); of `measure` of a set what was measured of its runs; of `search` its answer; where an image was listed, its listing; where a fault was
-/// explained, its explanation; where a source was formatted, its layout; where the manual or the version was asked for, this; and no write to `out` failed
-/// under any status but 1. Where a text, an image or a schedule was refused or memory was wanting, nothing was written; where a write to `out` failed, a
-/// beginning of what was to be written. `compile` writes the image's file, and nothing to `out`: that file stays as it was unless the bytes of the source's
-/// image were there to be written, and no other file changes. The steps of runs, searches and traces are counted, among them those of a second run, by which
-/// `simulate` says where an exception came from. `watch` has the seconds that somebody has waited.
+/// explained, its explanation; where a source was formatted, its layout; where one was lowered, what it is lowered to, and `err` its notes; where the manual or
+/// the version was asked for, this; and no write to `out` failed under any status but 1. Where a text, an image or a schedule was refused or memory was
+/// wanting, nothing was written; where a write to `out` failed, a beginning of what was to be written. `compile` writes the image's file, and nothing to `out`:
+/// that file stays as it was unless the bytes of the source's image were there to be written, and no other file changes. The steps of runs, searches and traces
+/// are counted, among them those of a second run, by which `simulate` says where an exception came from. `watch` has the seconds that somebody has waited.
 pub fn drive<F: FileStore, W: Stopwatch, O: Sink, E: Sink, L: Ledger>(
     alloc: Global,
     words: &[&str],
@@ -109,6 +110,7 @@ pub fn drive<F: FileStore, W: Stopwatch, O: Sink, E: Sink, L: Ledger>(
         }
         Ok(Request::Check { source }) => drive_check(alloc, files, source, err),
         Ok(Request::Format { source }) => drive_format(alloc, files, source, out, err),
+        Ok(Request::Lower { source }) => drive_lower(alloc, files, source, out, err),
         Ok(
             Request::Simulate {
                 source,

@@ -253,6 +253,21 @@ format_judged (a ∷ b ∷ c ∷ []) (na, (nb, others)) =
 format_judged (a ∷ b ∷ c ∷ d ∷ more) (na, (nb, others)) =
     Refused (refused_whole (codes "format") (a ∷ b ∷ c ∷ d ∷ more) refl refl refl (one_refused_more (codes "format") (codes "SRC") a b (c ∷ d ∷ more) na nb)) refl
 
+lower_judged : (rest : List Text) → AreNoFlags rest → Judged (codes "lower" ∷ rest)
+unfolding walked clap_on_literals
+lower_judged [] none = Refused (refused_whole (codes "lower") [] refl refl refl (one_refused_none (codes "lower") (codes "FILE"))) refl
+lower_judged (a ∷ []) (na, none) =
+    Taken (codes "lower") _
+    (taken_whole (codes "lower") (a ∷ []) refl refl refl (one_taken (codes "lower") (codes "FILE") a na refl))
+    (found_is (codes "lower") (a ∷ []) refl refl _ (ap (λ rows. Some (codes "lower", rows)) (one_rows (codes "lower") (codes "FILE") a na)))
+    refl
+lower_judged (a ∷ b ∷ []) (na, (nb, none)) =
+    Refused (refused_whole (codes "lower") (a ∷ b ∷ []) refl refl refl (one_refused_more (codes "lower") (codes "FILE") a b [] na nb)) refl
+lower_judged (a ∷ b ∷ c ∷ []) (na, (nb, others)) =
+    Refused (refused_whole (codes "lower") (a ∷ b ∷ c ∷ []) refl refl refl (one_refused_more (codes "lower") (codes "FILE") a b (c ∷ []) na nb)) refl
+lower_judged (a ∷ b ∷ c ∷ d ∷ more) (na, (nb, others)) =
+    Refused (refused_whole (codes "lower") (a ∷ b ∷ c ∷ d ∷ more) refl refl refl (one_refused_more (codes "lower") (codes "FILE") a b (c ∷ d ∷ more) na nb)) refl
+
 simulate_judged : (rest : List Text) → AreNoFlags rest → Judged (codes "simulate" ∷ rest)
 unfolding walked
 simulate_judged [] none = Refused (refused_whole (codes "simulate") [] refl refl refl text_refused_none) refl
@@ -290,9 +305,9 @@ help_judged (a ∷ b ∷ c ∷ []) = Refused Refuses refl
 help_judged (a ∷ b ∷ c ∷ d ∷ more) = Refused Refuses refl
 
 -- a word that names no command
-module _ (name : Text) (plain : IsNoFlag name) (is_compile : bytes_eq (codes "compile") name ≡ false) (is_list : bytes_eq (codes "list") name ≡ false) (is_run : bytes_eq (codes "run") name ≡ false) (is_go : bytes_eq (codes "go") name ≡ false) (is_trace : bytes_eq (codes "trace") name ≡ false) (is_explain : bytes_eq (codes "explain") name ≡ false) (is_check : bytes_eq (codes "check") name ≡ false) (is_format : bytes_eq (codes "format") name ≡ false) (is_simulate : bytes_eq (codes "simulate") name ≡ false) (is_manual : bytes_eq (codes "manual") name ≡ false) (is_version : bytes_eq (codes "version") name ≡ false) (is_help : bytes_eq (codes "help") name ≡ false) where
+module _ (name : Text) (plain : IsNoFlag name) (is_compile : bytes_eq (codes "compile") name ≡ false) (is_list : bytes_eq (codes "list") name ≡ false) (is_run : bytes_eq (codes "run") name ≡ false) (is_go : bytes_eq (codes "go") name ≡ false) (is_trace : bytes_eq (codes "trace") name ≡ false) (is_explain : bytes_eq (codes "explain") name ≡ false) (is_check : bytes_eq (codes "check") name ≡ false) (is_format : bytes_eq (codes "format") name ≡ false) (is_lower : bytes_eq (codes "lower") name ≡ false) (is_simulate : bytes_eq (codes "simulate") name ≡ false) (is_manual : bytes_eq (codes "manual") name ≡ false) (is_version : bytes_eq (codes "version") name ≡ false) (is_help : bytes_eq (codes "help") name ≡ false) where
   unmet : subcommand_met names idle name ≡ None
-  unmet = rw (is_compile, is_list, is_run, is_go, is_trace, is_explain, is_check, is_format, is_simulate, is_manual, is_version, is_help) refl
+  unmet = rw (is_compile, is_list, is_run, is_go, is_trace, is_explain, is_check, is_format, is_lower, is_simulate, is_manual, is_version, is_help) refl
 
   stray : (rest : List Text) → IsRefusal (fault_of program_app (name ∷ rest))
   stray rest =
@@ -302,7 +317,7 @@ module _ (name : Text) (plain : IsNoFlag name) (is_compile : bytes_eq (codes "co
   stray_asked : (rest : List Text) → asked_plainly (name ∷ rest) ≡ Nothing
   stray_asked [] = rw (flip (codes "manual") name is_manual, flip (codes "version") name is_version) refl
   stray_asked (a ∷ []) =
-      rw (flip (codes "list") name is_list, flip (codes "explain") name is_explain, flip (codes "check") name is_check, flip (codes "format") name is_format, flip (codes "simulate") name is_simulate) refl
+      rw (flip (codes "list") name is_list, flip (codes "explain") name is_explain, flip (codes "check") name is_check, flip (codes "format") name is_format, flip (codes "lower") name is_lower, flip (codes "simulate") name is_simulate) refl
   stray_asked (a ∷ b ∷ []) = rw (flip (codes "compile") name is_compile, flip (codes "explain") name is_explain, flip (codes "simulate") name is_simulate) refl
   stray_asked (a ∷ b ∷ c ∷ []) =
       rw (flip (codes "run") name is_run, flip (codes "go") name is_go, flip (codes "trace") name is_trace, flip (codes "simulate") name is_simulate) refl
@@ -314,29 +329,30 @@ named name rest n e j = subst (λ w. Judged (w ∷ rest)) ((bytes_eq-Decides n n
 pub judged : (words : List Text) → ArePlain words → Judged words
 unfolding clap_on_literals
 judged [] h = Refused Refuses refl
-judged (name ∷ rest) h = by _ _ _ _ _ _ _ _ _ _ _ _ refl refl refl refl refl refl refl refl refl refl refl refl
+judged (name ∷ rest) h = by _ _ _ _ _ _ _ _ _ _ _ _ _ refl refl refl refl refl refl refl refl refl refl refl refl refl
   where
     plain : AreNoFlags (name ∷ rest)
     plain = no_flags (name ∷ rest) h
 
-    by : (c l r g t x k f s m v q : Bool)
+    by : (c l r g t x k f w s m v q : Bool)
         → bytes_eq (codes "compile") name ≡ c → bytes_eq (codes "list") name ≡ l → bytes_eq (codes "run") name ≡ r → bytes_eq (codes "go") name ≡ g
         → bytes_eq (codes "trace") name ≡ t → bytes_eq (codes "explain") name ≡ x → bytes_eq (codes "check") name ≡ k
-        → bytes_eq (codes "format") name ≡ f → bytes_eq (codes "simulate") name ≡ s → bytes_eq (codes "manual") name ≡ m → bytes_eq (codes "version") name ≡ v → bytes_eq (codes "help") name ≡ q → Judged (name ∷ rest)
-    by true l r g t x k f s m v q ec el er eg et ex ek ef es em ev eq = named name rest _ ec (compile_judged rest plain.1)
-    by false true r g t x k f s m v q ec el er eg et ex ek ef es em ev eq = named name rest _ el (list_judged rest plain.1)
-    by false false true g t x k f s m v q ec el er eg et ex ek ef es em ev eq = named name rest _ er (run_judged rest plain.1)
-    by false false false true t x k f s m v q ec el er eg et ex ek ef es em ev eq = named name rest _ eg (go_judged rest plain.1)
-    by false false false false true x k f s m v q ec el er eg et ex ek ef es em ev eq = named name rest _ et (trace_judged rest plain.1)
-    by false false false false false true k f s m v q ec el er eg et ex ek ef es em ev eq = named name rest _ ex (explain_judged rest plain.1)
-    by false false false false false false true f s m v q ec el er eg et ex ek ef es em ev eq = named name rest _ ek (check_judged rest plain.1)
-    by false false false false false false false true s m v q ec el er eg et ex ek ef es em ev eq = named name rest _ ef (format_judged rest plain.1)
-    by false false false false false false false false true m v q ec el er eg et ex ek ef es em ev eq = named name rest _ es (simulate_judged rest plain.1)
-    by false false false false false false false false false true v q ec el er eg et ex ek ef es em ev eq = named name rest _ em (manual_judged rest plain.1)
-    by false false false false false false false false false false true q ec el er eg et ex ek ef es em ev eq = named name rest _ ev (version_judged rest plain.1)
-    by false false false false false false false false false false false true ec el er eg et ex ek ef es em ev eq = named name rest _ eq (help_judged rest)
-    by false false false false false false false false false false false false ec el er eg et ex ek ef es em ev eq =
-        Refused (stray name plain.0 ec el er eg et ex ek ef es em ev eq rest) (stray_asked name plain.0 ec el er eg et ex ek ef es em ev eq rest)
+        → bytes_eq (codes "format") name ≡ f → bytes_eq (codes "lower") name ≡ w → bytes_eq (codes "simulate") name ≡ s → bytes_eq (codes "manual") name ≡ m → bytes_eq (codes "version") name ≡ v → bytes_eq (codes "help") name ≡ q → Judged (name ∷ rest)
+    by true l r g t x k f w s m v q ec el er eg et ex ek ef ew es em ev eq = named name rest _ ec (compile_judged rest plain.1)
+    by false true r g t x k f w s m v q ec el er eg et ex ek ef ew es em ev eq = named name rest _ el (list_judged rest plain.1)
+    by false false true g t x k f w s m v q ec el er eg et ex ek ef ew es em ev eq = named name rest _ er (run_judged rest plain.1)
+    by false false false true t x k f w s m v q ec el er eg et ex ek ef ew es em ev eq = named name rest _ eg (go_judged rest plain.1)
+    by false false false false true x k f w s m v q ec el er eg et ex ek ef ew es em ev eq = named name rest _ et (trace_judged rest plain.1)
+    by false false false false false true k f w s m v q ec el er eg et ex ek ef ew es em ev eq = named name rest _ ex (explain_judged rest plain.1)
+    by false false false false false false true f w s m v q ec el er eg et ex ek ef ew es em ev eq = named name rest _ ek (check_judged rest plain.1)
+    by false false false false false false false true w s m v q ec el er eg et ex ek ef ew es em ev eq = named name rest _ ef (format_judged rest plain.1)
+    by false false false false false false false false true s m v q ec el er eg et ex ek ef ew es em ev eq = named name rest _ ew (lower_judged rest plain.1)
+    by false false false false false false false false false true m v q ec el er eg et ex ek ef ew es em ev eq = named name rest _ es (simulate_judged rest plain.1)
+    by false false false false false false false false false false true v q ec el er eg et ex ek ef ew es em ev eq = named name rest _ em (manual_judged rest plain.1)
+    by false false false false false false false false false false false true q ec el er eg et ex ek ef ew es em ev eq = named name rest _ ev (version_judged rest plain.1)
+    by false false false false false false false false false false false false true ec el er eg et ex ek ef ew es em ev eq = named name rest _ eq (help_judged rest)
+    by false false false false false false false false false false false false false ec el er eg et ex ek ef ew es em ev eq =
+        Refused (stray name plain.0 ec el er eg et ex ek ef ew es em ev eq rest) (stray_asked name plain.0 ec el er eg et ex ek ef ew es em ev eq rest)
 
 -- ---- what clap answers
 

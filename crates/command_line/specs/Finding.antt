@@ -3,7 +3,7 @@ use Rattle.std.specs.Prelude.{ℕ, true, false, List, [], ◌∷◌, ◌++◌, m
 use Rattle.clap.specs.Words.{App, Row, Rule, Shape, Text, first_of, new_rule}
 use Rattle.clap.specs.Simple.{new_shape}
 use Rattle.command_line.specs.declared.TheConstants.{SIMULATED_STEPS}
-use Rattle.command_line.specs.Words.{CheckText, Command, CompileText, ExplainFault, ExplainText, FormatText, GoText, ListImage, Nothing, RunImage, ShowManual, ShowVersion, numeral_of, seen, simulated, within}
+use Rattle.command_line.specs.Words.{CheckText, Command, CompileText, ExplainFault, ExplainText, FormatText, GoText, ListImage, LowerText, Nothing, RunImage, ShowManual, ShowVersion, numeral_of, seen, simulated, within}
 use Rattle.command_line.specs.declared.View.TheVariants as views
 
 -- an argument that has to be given
@@ -47,7 +47,7 @@ running_app = record {
       ∷ [];
 }
 
--- with those that explain, check and format
+-- with those that explain, check, format and lower
 abbrev pub checking_app : App
 checking_app = record {
   top = program_shape;
@@ -55,10 +55,11 @@ checking_app = record {
       ++ explain_app.top
       ∷ (command_app (codes "check") (codes "SRC" ∷ [])).top
       ∷ (command_app (codes "format") (codes "SRC" ∷ [])).top
+      ∷ (command_app (codes "lower") (codes "FILE" ∷ [])).top
       ∷ [];
 }
 
--- the eleven commands
+-- the twelve commands
 abbrev pub program_app : App
 program_app = record {
   top = program_shape;
@@ -107,10 +108,11 @@ asked_in name value =
     else (if bytes_eq name (codes "explain") then of_explain (value (codes "NUMBER")) (value (codes "SRC"))
     else (if bytes_eq name (codes "check") then of_one CheckText (value (codes "SRC"))
     else (if bytes_eq name (codes "format") then of_one FormatText (value (codes "SRC"))
+    else (if bytes_eq name (codes "lower") then of_one LowerText (value (codes "FILE"))
     else (if bytes_eq name (codes "simulate") then of_simulate (value (codes "SRC")) (value (codes "SCHED")) (value (codes "LIMIT"))
     else (if bytes_eq name (codes "manual") then ShowManual
     else (if bytes_eq name (codes "version") then ShowVersion
-    else Nothing))))))))))
+    else Nothing)))))))))))
 
 -- what the command that clap found asks for, by its name and its matches
 abbrev pub asked_by : Option (Text × List Row) → Command

@@ -30,6 +30,7 @@ pub data Command : Type 0 where
   ExplainText : (number : ℕ) (source : List ℕ) → Command
   CheckText : (source : List ℕ) → Command
   FormatText : (source : List ℕ) → Command
+  LowerText : (source : List ℕ) → Command
   -- the schedule is empty where none is named
   SimulateText : (source : List ℕ) (schedule : Option (List ℕ)) (limit : ℕ) (until : Option ℤ) → Command
   -- a time in microseconds up to which the run on each schedule of a set is measured, and a limit on the steps of each; whether fields are written, or a table
@@ -73,7 +74,8 @@ asked_plainly (name ∷ word ∷ []) =
     else (if bytes_eq name (codes "explain") then within ExplainFault (numeral_of word)
     else (if bytes_eq name (codes "check") then CheckText word
     else (if bytes_eq name (codes "format") then FormatText word
-    else (if bytes_eq name (codes "simulate") then simulated word None SIMULATED_STEPS else Nothing))))
+    else (if bytes_eq name (codes "lower") then LowerText word
+    else (if bytes_eq name (codes "simulate") then simulated word None SIMULATED_STEPS else Nothing)))))
 asked_plainly (name ∷ first ∷ second ∷ []) =
     if bytes_eq name (codes "compile") then CompileText first second
     else (if bytes_eq name (codes "explain") then within (λ number. ExplainText number second) (numeral_of first)
@@ -351,6 +353,7 @@ command_of (requests.Explain number) = ExplainFault number
 command_of (requests.ExplainText number source) = ExplainText number source.now
 command_of (requests.Check source) = CheckText source.now
 command_of (requests.Format source) = FormatText source.now
+command_of (requests.Lower source) = LowerText source.now
 command_of (requests.Simulate source schedule limit until) = SimulateText source.now (option_map (λ name. name.now) schedule) limit until
 command_of (requests.MeasureSet source choices until limit is_fields) = MeasureSet source.now choices.now until limit is_fields
 command_of (requests.Search source choices until limit wanted part is_quiet) = SearchText source.now choices.now until limit (wanted_of wanted) part is_quiet

@@ -5,7 +5,7 @@ ghost use Rattle.std.specs.Prelude.{◌≡◌, ◌&&◌, if◌then◌else◌, tr
 ghost use Rattle.std.specs.List.{list_all};
 ghost use Rattle.clap.specs.Words.{App, app_of, first_value, found_of, kind_of, subcommand_rows_of, with_subcommand};
 ghost use Rattle.clap.specs.declared.builder.command.Command.TheViews.{out-Command};
-ghost use Rattle.command_line.specs.Words.{AnswersWords, CheckText, CompileText, FormatText, GoText, ListImage, RunImage, asked, asked_among, asked_besides, asked_plainly, is_digit, is_told, is_told_among, is_told_besides, seen};
+ghost use Rattle.command_line.specs.Words.{AnswersWords, CheckText, CompileText, FormatText, GoText, ListImage, LowerText, RunImage, asked, asked_among, asked_besides, asked_plainly, is_digit, is_told, is_told_among, is_told_besides, seen};
 ghost use Rattle.command_line.specs.Finding.{asked_by, asked_in, bare_app, checking_app, command_app, explain_app, of_explain, of_one, of_simulate, of_three, of_two, program_app, running_app, simulate_app};
 ghost use Rattle.command_line.specs.Words as words_of;
 
@@ -74,6 +74,10 @@ pub enum Request<'a> {
     },
     /// Lay a source out.
     Format {
+        source: &'a str,
+    },
+    /// Lower a text of whole Ada 2012.
+    Lower {
         source: &'a str,
     },
     /// Compile a source and run it on a schedule, or on the empty one, for at most this many steps, and say in words what goes wrong, and where; with a time in
@@ -240,6 +244,7 @@ fn request_in<'a>(name: &str, found: &ArgMatches<'a>) -> Result<Request<'a>, Wor
         "explain" => explain_request(found),
         "check" => check_request(found),
         "format" => format_request(found),
+        "lower" => lower_request(found),
         "simulate" => simulate_request(
             found.get_str("SRC"),
             found.get_str("SCHED"),
@@ -326,6 +331,14 @@ fn format_request<'a>(found: &ArgMatches<'a>) -> Result<Request<'a>, WordsError>
 {
     Ok(Request::Format {
         source: word(found, "SRC")?,
+    })
+}
+
+fn lower_request<'a>(found: &ArgMatches<'a>) -> Result<Request<'a>, WordsError>
+    ensures { AnswersWords (of_one LowerText (first_value (found_of found.now) (codes "FILE"))) result }
+{
+    Ok(Request::Lower {
+        source: word(found, "FILE")?,
     })
 }
 
@@ -427,13 +440,14 @@ fn running_commands<'a>(alloc: Global) -> Result<Command<'a>, AllocError>
     with_command(alloc, command, "trace", &["SRC", "SCHED", "LIMIT"])
 }
 
-// The program with those, and with the commands that explain, check and format.
+// The program with those, and with the commands that explain, check, format and lower.
 fn checking_commands<'a>(alloc: Global) -> Result<Command<'a>, AllocError>
     ensures { IfOk result (λ command. app_of command ≡ checking_app) }
 {
     let command = running_commands(alloc)?.subcommand(explain_command(alloc)?)?;
     let command = with_command(alloc, command, "check", &["SRC"])?;
-    with_command(alloc, command, "format", &["SRC"])
+    let command = with_command(alloc, command, "format", &["SRC"])?;
+    with_command(alloc, command, "lower", &["FILE"])
 }
 
 // The program with all its commands.

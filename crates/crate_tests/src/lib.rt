@@ -14,6 +14,8 @@ mod keepers;
 #[cfg(test)]
 mod lowered_texts;
 #[cfg(test)]
+mod lowering_words;
+#[cfg(test)]
 mod name_rows;
 #[cfg(test)]
 mod parsed_texts;

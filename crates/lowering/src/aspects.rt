@@ -2,7 +2,6 @@
 
 use crate::NoteKind;
 use crate::changes::Changes;
-use crate::source::is_word;
 use ada2012_lexer::Span;
 use ada2012_tree::{Aspect, Pragma};
 use lexer::Word;

@@ -20,6 +20,9 @@ COMMANDS
         reports every rule that a source breaks, with its line, its rule and a hint
     adarun format SRC
         writes a source in one layout; its line breaks and comments stay
+    adarun lower FILE
+        writes a text of whole Ada 2012 with fewer constructs, line for line, and reports what
+        it has left out; whether the result can be run says adarun check
     adarun trace SRC SCHED LIMIT [--until TIME]
         reports the run row by row: who runs, waits, is preempted, enters and leaves objects,
         queues and is served, what is raised and where, and what is refused
@@ -59,6 +62,7 @@ WORDS
 
     SRC     the file of a source, at most 65536 bytes: one package and a main procedure;
             - is standard input for simulate, check, format and search
+    FILE    the file of a text of whole Ada 2012, at most 65536 bytes, or - for standard input
     IMG     the file of an image
     SCHED   the file of a schedule; /dev/null is the empty one, and so is none for simulate
     LIMIT   the most steps of the run, in decimal digits alone, without underlines or an

@@ -1,6 +1,6 @@
 use Rattle.std.proofs.Common.{◌≡◌, None, Some, inl, inr, of_z, refl, rules, subst, to_z, w64}
 use Rattle.std.specs.Prelude.{option_map}
-use Rattle.command_line.specs.Words.{CheckText, CompileText, ExplainFault, ExplainText, FormatText, GoText, ListImage, MeasureSet, Nothing, RunImage, SearchText, ShowManual, ShowVersion, SimulateText, TraceText, wanted_of}
+use Rattle.command_line.specs.Words.{CheckText, CompileText, ExplainFault, ExplainText, FormatText, GoText, ListImage, LowerText, MeasureSet, Nothing, RunImage, SearchText, ShowManual, ShowVersion, SimulateText, TraceText, wanted_of}
 use Rattle.adarun.specs.Driving.{LeavesMeasures, LeavesSearch, LeavesTrace, LeavesUntil, input_of}
 use Rattle.adarun.specs.Reading.{with_input}
 use Rattle.adarun.specs.declared.program.Status.TheVariants.{Failed, NoMemory}
@@ -108,6 +108,16 @@ returns-in-Ok-Format-clause-answers g c = record {
   answer_is = search rules;
   asked_for = λ plain. inl (asked_as _ _ _ c.in-Ok-Format.field-0-is (c.in-Ok-Format.ensures plain));
   leaves = (λ name. refl, c.drive_format-status.ensures.leaves);
+  reports = tt;
+}
+
+pub returns-in-Ok-Lower-clause-answers : goal.returns-in-Ok-Lower-clause-answers
+returns-in-Ok-Lower-clause-answers g c = record {
+  work = LowerText c.in-Ok-Lower.source.now;
+  status = c.drive_lower-status.result;
+  answer_is = search rules;
+  asked_for = λ plain. inl (asked_as _ _ _ c.in-Ok-Lower.field-0-is (c.in-Ok-Lower.ensures plain));
+  leaves = (λ name. refl, c.drive_lower-status.ensures.leaves);
   reports = tt;
 }
 
