@@ -86,7 +86,7 @@ class Checker:
         """Each command of the program, with names in the place of the words in capitals; of alternatives in brackets none, and each."""
         image = os.path.join(self.scratch, "tank.img")
         choices = self.file("choices.txt", "10000 1 20|50|90\n")
-        names = {"SRC": SOURCE, "SCHED": SCHEDULE, "LIMIT": "1000000", "IMG": image, "NUMBER": "6", "CHOICES": choices, "UNTIL": "60000", "LABEL": "nobody", "TIME": "60000"}
+        names = {"SRC": SOURCE, "FILE": SOURCE, "SCHED": SCHEDULE, "LIMIT": "1000000", "IMG": image, "NUMBER": "6", "CHOICES": choices, "UNTIL": "60000", "LABEL": "nobody", "TIME": "60000"}
         for line in lines:
             shown, _, group, part = re.fullmatch(r"(.*?)( \[([^]]*\|[^]]*)\])?( \[--part K/N\])?", re.split(r"  +", line)[0]).groups()
             starts = [re.sub(OPTION, "", shown), *([re.sub(OPTION, r" \1", shown)] if re.search(OPTION, shown) else [])]
