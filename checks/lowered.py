@@ -4,7 +4,10 @@
     lowered.py PROGRAM SCRATCH
 
 Each text of a pair is lowered from a file and from standard input; what it is lowered to is lowered to itself. A program of whole Ada is lowered, checked and run, and
-deep texts are lowered in 1 MiB of stack."""
+deep texts are lowered in 1 MiB of stack. Each program NAME.adb of examples/natural is lowered line for line; what it is lowered to is lowered to itself and checked,
+and writes NAME.lines on the schedule NAME.schedule, or on an empty one where there is none. What NAME.ada of examples/from_ada is lowered to writes the lines of
+NAME.out, which the same program rewritten by hand writes, but for their labels. What the first text of each pair of docs/FROM_ADA.md is lowered to runs as the second
+one does, but for the pairs of STAYS, of which something stays."""
 
 import os
 import re
@@ -13,12 +16,26 @@ import subprocess
 import sys
 
 sys.path.insert(0, os.path.dirname(os.path.abspath(__file__)))
+from from_ada import DOCUMENT as FORMS, framed, pairs_of  # noqa: E402
 from traces import write  # noqa: E402
 
 HERE = os.path.dirname(os.path.abspath(__file__))
 PAIRS = os.path.join(HERE, "..", "crates", "crate_tests", "src", "lowered_texts.rt")
 DOCUMENT = os.path.join(HERE, "..", "docs", "LOWERING.md")
 PAIR = re.compile(r'\(\s*"((?:[^"\\]|\\.)*)",\s*"((?:[^"\\]|\\.)*)",?\s*\)')
+PROGRAMS = os.path.join(HERE, "..", "examples", "natural")
+BOTH_FORMS = os.path.join(HERE, "..", "examples", "from_ada")
+# A name as the programs of examples/natural write it, with a capital letter, which no reserved word of theirs has; and a line of which a rule writes names elsewhere:
+# clauses are before the package, and discriminants are formal parameters of the body.
+NAME = re.compile(rb"\b[A-Z]\w*")
+ELSEWHERE = re.compile(rb"\s*(?:with|use|task type)\b")
+STEPS = "1000000"
+# The pairs of docs/FROM_ADA.md of which the first text isn't lowered to a text of the language.
+STAYS = {
+    "A derived type", "A constant array", "A subprogram in a subprogram", "Two subprograms of one name", "A barrier that is an expression", "A protected type",
+}
+# The status of a run that ended, and of one that waits forever, by the first word of the last line.
+STATUSES = {b"ended": 0, b"waits": 4}
 MOST = 65536
 LEVELS = 40
 STACK = 1 << 20
@@ -109,6 +126,40 @@ def instead():
     return dict(line.strip("| ").split(" | ") for line in table.splitlines())
 
 
+def lines_of_names(text):
+    """In which lines each name of a text is."""
+    found = {}
+    for number, line in enumerate(text.split(b"\n")):
+        for name in NAME.findall(line):
+            found.setdefault(name, set()).add(number)
+    return found
+
+
+def moved(text, lowered):
+    """The names that one line of a text has, and that the lowered text has in other lines alone."""
+    lines, after = text.split(b"\n"), lines_of_names(lowered)
+    once = {name: found for name, found in lines_of_names(text).items() if len(found) == 1 and not ELSEWHERE.match(lines[min(found)])}
+    return sorted(name for name, found in once.items() if name in after and not found & after[name])
+
+
+def without_labels(lines):
+    """Lines of a run without their labels, which are the third of four words; the last line has fewer words."""
+    return [line.split()[:2] + line.split()[-1:] for line in lines.splitlines()]
+
+
+def names_in(folder, ending):
+    """The names of the files of a folder that have this ending, without it."""
+    return sorted(name.removesuffix(ending) for name in os.listdir(folder) if name.endswith(ending))
+
+
+def bytes_of(path):
+    """What a file has, or nothing where it isn't there."""
+    if not os.path.exists(path):
+        return b""
+    with open(path, "rb") as file:
+        return file.read()
+
+
 class Comparer:
     """Lowers texts with the program, and compares what it leaves."""
 
@@ -150,6 +201,38 @@ class Comparer:
         self.expect("the check of a lowered text", self.call("check", "lowered.adb"), (b"", b"", 0))
         self.expect("the run of a lowered text", self.call("simulate", "lowered.adb"), (b"0 MAIN high 24\nended at 0\n", b"", 0))
 
+    def program_of(self, name):
+        """A program of examples/natural: the lines of its lowered text, and its run."""
+        text, expected, schedule = (bytes_of(os.path.join(PROGRAMS, name + ending)) for ending in (".adb", ".lines", ".schedule"))
+        lowered, _, status = self.lower(text)
+        self.expect(f"the status of lowering {name}", status, 0)
+        self.expect(f"the number of lines of {name}", lowered.count(b"\n"), text.count(b"\n"))
+        self.expect(f"the names of {name} in other lines", moved(text, lowered), [])
+        self.expect(f"{name}, lowered again", self.call("lower", "-", given=lowered), (lowered, b"", 0))
+        write(os.path.join(self.folder, "lowered.adb"), lowered)
+        write(os.path.join(self.folder, "schedule"), schedule)
+        self.expect(f"the check of {name}", self.call("check", "lowered.adb"), (b"", b"", 0))
+        last = expected.splitlines()[-1].split()[0] if expected else b""
+        self.expect(f"the run of {name}", self.call("go", "lowered.adb", "schedule", STEPS), (expected, b"", STATUSES.get(last)))
+
+    def both_forms(self, name):
+        """A program of examples/from_ada: what it is lowered to writes what the program that was rewritten by hand writes, with other labels."""
+        lowered, _, status = self.lower(bytes_of(os.path.join(BOTH_FORMS, name + ".ada")))
+        self.expect(f"the status of lowering {name}", status, 0)
+        told, faults, status = self.run(lowered)
+        self.expect(f"the status of {name}", (faults, status), (b"", 0))
+        self.expect(f"the run of {name}", without_labels(told), without_labels(bytes_of(os.path.join(BOTH_FORMS, name + ".out"))))
+
+    def run(self, text):
+        """What a text writes on an empty schedule, and its status."""
+        write(os.path.join(self.folder, "run.adb"), text)
+        write(os.path.join(self.folder, "schedule"), b"")
+        return self.call("go", "run.adb", "schedule", STEPS)
+
+    def forms(self, title, ada, here):
+        """A pair of docs/FROM_ADA.md: what its first text is lowered to runs as its second one does."""
+        self.expect(f"the run of `{title}`", self.run(self.lower(framed(ada).encode())[0]), self.run(framed(here).encode()))
+
     def deep(self):
         """Texts with as many levels as one may have, and with one more, in 1 MiB of stack."""
         for name, (start, opening, inside, closing, end) in DEEP.items():
@@ -176,12 +259,21 @@ def main():
     for name, marked in CONSTRUCTS.items():
         comparer.construct(name, marked, words.get(name))
     comparer.natural()
+    programs, both = names_in(PROGRAMS, ".adb"), names_in(BOTH_FORMS, ".ada")
+    for name in programs:
+        comparer.program_of(name)
+    for name in both:
+        comparer.both_forms(name)
+    with open(FORMS, encoding="utf-8") as file:
+        forms = [(title, blocks) for title, blocks in pairs_of(file.read()) if len(blocks) == 2 and title not in STAYS]
+    for title, (ada, here) in forms:
+        comparer.forms(title, ada, here)
     comparer.deep()
     comparer.long()
     for told in comparer.wrong:
         print(f"lowered: {told}", file=sys.stderr)
-    print(f"lowered: {len(found)} pairs, {len(CONSTRUCTS)} constructs, {comparer.texts} comparisons, {len(comparer.wrong)} wrong")
-    sys.exit(1 if comparer.wrong or not found else 0)
+    print(f"lowered: {len(found)} pairs, {len(CONSTRUCTS)} constructs, {len(programs) + len(both)} programs, {len(forms)} pairs of forms, {comparer.texts} comparisons, {len(comparer.wrong)} wrong")
+    sys.exit(1 if comparer.wrong or not found or not programs or not both or not forms else 0)
 
 
 if __name__ == "__main__":

@@ -82,6 +82,21 @@ class Checker:
                 ran = subprocess.run([os.path.abspath("run"), command[2]], cwd=self.scratch, capture_output=True, text=True, check=False)
                 self.is_so(command[1], (ran.returncode, ran.stdout, ran.stderr) == (2, "", "\n".join(report) + "\n"), ran.stderr)
 
+    def lowered(self, blocks):
+        """The lines of a text of whole Ada, what `lower` writes for them, line for line, and the first lines of the run."""
+        for (_, text), (_, words), (before, lines) in zip(blocks, blocks[1:], blocks[2:]):
+            command = re.search(r"`adarun lower ([^ `]*) > ([^ `]*)` the call `adarun go \2 ([^ `]*) (\d+)`", before)
+            if command:
+                source, name, schedule, limit = command.groups()
+                status, written, _ = self.called([self.program, "lower", source])
+                with open(source, encoding="utf-8") as file:
+                    pairs = list(zip(map(str.strip, file.read().split("\n")), map(str.strip, written.split("\n"))))
+                self.is_so(f"the lines of {source}", status == 0 and all(pair in pairs for pair in zip(text, words)) and len(text) == len(words), (status, words))
+                status, told, _ = self.called([self.program, "go", self.file(name, written), schedule, limit])
+                self.is_so(f"the run of {name}", status == 0 and told.startswith("\n".join(lines) + "\n"), (status, told))
+                return
+        self.is_so("a text of whole Ada", False, "isn't shown")
+
     def commands(self, lines, written):
         """Each command of the program, with names in the place of the words in capitals; of alternatives in brackets none, and each."""
         image = os.path.join(self.scratch, "tank.img")
@@ -164,6 +179,7 @@ def main():
     checker = Checker(program, scratch)
     written = checker.example([block for block in blocks if "->" not in "".join(block[1])])
     checker.refused(blocks)
+    checker.lowered(blocks)
     for _, lines in blocks:
         if lines[0].startswith("adarun "):
             checker.commands(lines, written)

@@ -199,6 +199,33 @@ fn faults_are_reported(rt: HostRuntime) -> Result<(), Fail> {
     Ok(())
 }
 
+const NOTES: [Row; 6] = [
+    (
+        "package Q is pragma Pure; end Q;",
+        "f:1:14: note: pragma PURE left out\npackage Q is pragma Pure; end Q;\n             ^\n",
+    ),
+    (
+        "package Q is A : T := 0 with Atomic; end Q;",
+        "f:1:30: note: aspect ATOMIC left out\npackage Q is A : T := 0 with Atomic; end Q;\n                             ^\n",
+    ),
+    (
+        "with Ada.Interrupts.Names; package Q is protected O is procedure H with Attach_Handler => Ada.Interrupts.Names.SIGHUP; end O; end Q;",
+        "f:1:91: note: SIGHUP is channel 1\n",
+    ),
+    (
+        "procedure P is begin raise E with \"late\"; end P;",
+        "f:1:29: note: message of an exception left out\n",
+    ),
+    (
+        "with Ada.Text_IO; use Ada.Text_IO; procedure P is begin Put_Line (Integer'Image (1) & \"s\"); end P;",
+        "f:1:57: note: part of a text left out\n",
+    ),
+    (
+        "package Q is procedure P (Q : Integer); end Q; with Q; procedure M is begin null; end M;",
+        "f:1:27: note: Q is renamed to Q_2\n",
+    ),
+];
+
 // What is said of the first note.
 fn first_note(alloc: Global, text: &str) -> Option<Vec<u8>> {
     let lowered = lower(alloc, text.as_bytes()).ok()?;
@@ -208,14 +235,18 @@ fn first_note(alloc: Global, text: &str) -> Option<Vec<u8>> {
     Some(report)
 }
 
+// Is this said of the first note?
+fn is_noted(alloc: Global, text: &str, words: &str) -> bool {
+    match first_note(alloc, text) {
+        Some(report) => report.starts_with(words.as_bytes()),
+        None => false,
+    }
+}
+
 #[test]
 fn notes_are_reported(rt: HostRuntime) -> Result<(), Fail> {
-    let Some(report) = first_note(rt.alloc(), "package Q is pragma Pure; end Q;") else {
-        panic!(rt; "no note");
-    };
-    assert!(rt;
-        report.as_slice()
-            == "f:1:14: note: pragma PURE left out\npackage Q is pragma Pure; end Q;\n             ^\n".as_bytes()
-    );
+    for (text, words) in &NOTES {
+        assert!(rt; is_noted(rt.alloc(), text, words));
+    }
     Ok(())
 }

@@ -116,7 +116,7 @@ fn fault_in(alloc: Global, text: &str) -> Option<Fault> {
 
 #[test]
 fn texts_of_whole_ada_are_parsed(rt: HostRuntime) -> Result<(), Fail> {
-    for text in PARSED {
+    for text in &PARSED {
         assert!(rt; fault_in(rt.alloc(), text).is_none());
     }
     Ok(())
@@ -124,8 +124,12 @@ fn texts_of_whole_ada_are_parsed(rt: HostRuntime) -> Result<(), Fail> {
 
 #[test]
 fn faults_are_at_the_first_wrong_token(rt: HostRuntime) -> Result<(), Fail> {
-    for (text, place, kind) in REFUSED {
-        assert!(rt; fault_in(rt.alloc(), text) == Some(Fault { kind, place }));
+    for (text, place, kind) in &REFUSED {
+        let fault = Fault {
+            kind: *kind,
+            place: *place,
+        };
+        assert!(rt; fault_in(rt.alloc(), text) == Some(fault));
     }
     Ok(())
 }

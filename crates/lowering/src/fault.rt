@@ -2,7 +2,7 @@
 ghost use Rattle.std.specs.Prelude.{◌≡◌};
 ghost use Rattle.lowering.specs.Lowering.{memory_fault};
 
-use base::Text;
+use lowering_text::NoteKind;
 use std::alloc::{AllocError, AllocFailed};
 
 /// Why a text isn't lowered.
@@ -54,13 +54,6 @@ impl<T: Drop> From<AllocFailed<T>> for Fault {
     fn from(_refused: AllocFailed<T>) -> Fault {
         Fault::memory()
     }
-}
-
-/// What was changed so that people should know of it.
-#[derive(Drop, PartialEq, Eq)]
-pub enum NoteKind {
-    /// The pragma of this name was left out.
-    PragmaLeftOut(Text),
 }
 
 /// A note, and the byte of the text that was given.

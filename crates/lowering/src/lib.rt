@@ -2,7 +2,7 @@
 #![tactic(auto)]
 
 mod aspects;
-mod changes;
+mod cases;
 mod endings;
 mod fault;
 mod functions;
@@ -11,9 +11,10 @@ mod literals;
 mod lowering;
 mod names;
 mod numbers;
-mod source;
-mod statics;
+mod returns;
+mod stages;
 mod walk;
 
-pub use fault::{Fault, FaultKind, Lowered, Note, NoteKind};
+pub use fault::{Fault, FaultKind, Lowered, Note};
 pub use lowering::{ROUNDS, lower};
+pub use lowering_text::NoteKind;

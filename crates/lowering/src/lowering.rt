@@ -3,14 +3,16 @@ ghost use Rattle.std.specs.Prelude.{◌≡◌, IfOk, IfSome};
 ghost use Rattle.text_edits.specs.Edits.{IsEdited, line_feeds};
 ghost use Rattle.lowering.specs.Lowering.{IsLowered};
 
-use crate::changes::{Changes, Request};
-use crate::source::Source;
-use crate::{Fault, FaultKind, Lowered, Note};
+use crate::fault::{Fault, FaultKind, Lowered, Note};
+use crate::literals::lower_tokens;
+use crate::stages::lower_with_names;
+use crate::walk::lower_program;
+use lowering_text::{Changes, RefusalKind, Request, Source};
 use std::alloc::{AllocError, Global};
 use text_edits::{Edits, Places};
 
 /// The most rounds of edits: each takes what earlier ones have written, and levels within levels.
-pub const ROUNDS: usize = 100;
+pub const ROUNDS: usize = 400;
 
 // The place in the text that was given of a place in the text as it is now.
 fn in_given_text(history: &[Places], place: u32) -> u32 {
@@ -41,6 +43,13 @@ fn syntax_fault(fault: ada2012_parser::Fault) -> Fault {
     }
 }
 
+fn kind_of_refusal(kind: RefusalKind) -> FaultKind {
+    match kind {
+        RefusalKind::RealNumber => FaultKind::RealNumber,
+        RefusalKind::NumberOutOfRange => FaultKind::NumberOutOfRange,
+    }
+}
+
 // What is to be changed in a text, in the order of the text.
 fn requests(alloc: Global, text: &[u8]) -> Result<Vec<Request>, Fault> {
     let found = match ada2012_lexer::tokens(alloc, text) {
@@ -56,16 +65,17 @@ fn requests(alloc: Global, text: &[u8]) -> Result<Vec<Request>, Fault> {
         tokens: &found.tokens,
     };
     let mut changes = Changes::new(alloc, source);
-    changes.program(&program)?;
-    changes.tokens()?;
+    lower_program(&mut changes, &program)?;
+    lower_tokens(&mut changes)?;
+    lower_with_names(&mut changes, &program)?;
     if let Some(refusal) = changes.refusal {
         return Err(Fault {
-            kind: refusal.kind,
+            kind: kind_of_refusal(refusal.kind),
             place: refusal.place,
         });
     }
     let Changes { mut requests, .. } = changes;
-    requests.sort_by_key(|request| request.span.start)?;
+    requests.sort_by_key(|request| (request.span.start, request.span.end_))?;
     Ok(requests)
 }
 

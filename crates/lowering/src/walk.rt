@@ -1,276 +1,318 @@
 //! The walk over the tree of a text, which finds what is to be changed.
 
-use crate::changes::Changes;
+use crate::aspects::{inner_pragma, lower_pragma};
+use crate::cases::complete;
+use crate::endings::name_end;
+use crate::functions::{expression_function, null_procedure};
+use crate::labels::leave_out_label;
+use crate::names::separate;
+use crate::numbers::lower_number;
+use crate::returns::return_condition;
 use ada2012_lexer::Span;
 use ada2012_tree::{
     Alternative, Body, Branch, Clause, Component, Declaration, Formal, Handler, Name, Package,
     PackageBody, Program, ProtectedDeclaration, ProtectedItem, Specification, Statement,
     TaskDeclaration, TypeDefinition, Unit, UnitItem, UnitSubprogram,
 };
+use lowering_text::Changes;
+use lowering_units::{attach, is_attachment, lower_occurrence, lower_raise};
 use std::alloc::AllocError;
 
-impl<'a> Changes<'a> {
-    fn formals(&mut self, formals: &[Formal]) -> Result<(), AllocError> {
-        for formal in formals {
-            self.separate(&formal.names, formal.span, ";".as_bytes())?;
-        }
-        Ok(())
+fn lower_formals(changes: &mut Changes<'_>, formals: &[Formal]) -> Result<(), AllocError> {
+    for formal in formals {
+        separate(changes, &formal.names, formal.span, ";".as_bytes())?;
     }
+    Ok(())
+}
 
-    fn components(&mut self, components: &[Component]) -> Result<(), AllocError> {
-        for component in components {
-            self.separate(&component.names, component.span, &[])?;
-        }
-        Ok(())
+fn lower_components(changes: &mut Changes<'_>, components: &[Component]) -> Result<(), AllocError> {
+    for component in components {
+        separate(changes, &component.names, component.span, &[])?;
     }
+    Ok(())
+}
 
-    fn task(&mut self, task: &TaskDeclaration) -> Result<(), AllocError> {
-        self.formals(&task.discriminants)?;
-        for pragma in task.pragmas.as_slice() {
-            self.inner_pragma(task.name.span.end_, &task.aspects, pragma)?;
-        }
-        self.name_end(task.span, task.name.span)
+fn lower_task(changes: &mut Changes<'_>, task: &TaskDeclaration) -> Result<(), AllocError> {
+    lower_formals(changes, &task.discriminants)?;
+    for pragma in task.pragmas.as_slice() {
+        inner_pragma(changes, task.name.span.end_, &task.aspects, pragma)?;
     }
+    name_end(changes, task.span, task.name.span)
+}
 
-    fn protected_item(
-        &mut self,
-        object: &ProtectedDeclaration,
-        item: &ProtectedItem,
-    ) -> Result<(), AllocError> {
-        match item {
-            ProtectedItem::Subprogram(_, specification, _) => self.formals(&specification.formals),
-            ProtectedItem::Entry(_, _, formals, _) => self.formals(formals),
-            ProtectedItem::Component(component) => {
-                self.separate(&component.names, component.span, &[])
-            }
-            ProtectedItem::Pragma(pragma) => {
-                self.inner_pragma(object.name.span.end_, &object.aspects, pragma)
-            }
+fn lower_protected_item(
+    changes: &mut Changes<'_>,
+    object: &ProtectedDeclaration,
+    item: &ProtectedItem,
+) -> Result<(), AllocError> {
+    match item {
+        ProtectedItem::Subprogram(_, specification, _) => lower_formals(
+            changes,
+            &specification.formals,
+        ),
+        ProtectedItem::Entry(_, _, formals, _) => lower_formals(changes, formals),
+        ProtectedItem::Component(component) => {
+            separate(changes, &component.names, component.span, &[])
         }
-    }
-
-    fn protected(&mut self, object: &ProtectedDeclaration) -> Result<(), AllocError> {
-        self.formals(&object.discriminants)?;
-        for item in object.visible.as_slice() {
-            self.protected_item(object, item)?;
-        }
-        for item in object.hidden.as_slice() {
-            self.protected_item(object, item)?;
-        }
-        self.name_end(object.span, object.name.span)
-    }
-
-    // A declaration that may be in a specification as well as in a body, and has none within.
-    fn simple(&mut self, declaration: &Declaration) -> Result<(), AllocError> {
-        match declaration {
-            Declaration::Object(object) => self.separate(&object.names, object.span, &[]),
-            Declaration::Number(span, names, value) => self.number(*span, names, value),
-            Declaration::Exception(span, names) => self.separate(names, *span, &[]),
-            Declaration::Type(own) => {
-                self.formals(&own.discriminants)?;
-                match &own.definition {
-                    TypeDefinition::Record(components) => self.components(components),
-                    _ => Ok(()),
-                }
-            }
-            Declaration::Subprogram(_, specification, _) => self.formals(&specification.formals),
-            Declaration::Task(task) => self.task(task),
-            Declaration::Protected(object) => self.protected(object),
-            Declaration::Pragma(pragma) => self.pragma(pragma, &[]),
-            _ => Ok(()),
+        ProtectedItem::Pragma(pragma) if is_attachment(pragma) => attach(changes, object, pragma),
+        ProtectedItem::Pragma(pragma) => {
+            inner_pragma(changes, object.name.span.end_, &object.aspects, pragma)
         }
     }
+}
 
-    // A function by an expression, or a null procedure, in a body.
-    fn completed(&mut self, declaration: &Declaration) -> Result<(), AllocError> {
-        match declaration {
-            Declaration::NullProcedure(_, specification, aspects) => {
-                self.formals(&specification.formals)?;
-                if aspects.is_empty() {
-                    self.null_procedure(specification)?;
-                }
-                Ok(())
-            }
-            Declaration::ExpressionFunction(_, specification, value, aspects) => {
-                self.formals(&specification.formals)?;
-                if aspects.is_empty() {
-                    self.expression_function(specification, value)?;
-                }
-                Ok(())
-            }
-            _ => self.simple(declaration),
-        }
+fn lower_protected(
+    changes: &mut Changes<'_>,
+    object: &ProtectedDeclaration,
+) -> Result<(), AllocError> {
+    lower_formals(changes, &object.discriminants)?;
+    for item in object.visible.as_slice() {
+        lower_protected_item(changes, object, item)?;
     }
-
-    // A subprogram with its body.
-    #[cycle(statement)]
-    fn subprogram(
-        &mut self,
-        span: Span,
-        specification: &Specification,
-        body: &Body,
-    ) -> Result<(), AllocError> {
-        self.formals(&specification.formals)?;
-        self.body(body)?;
-        self.name_end(span, specification.name.span)
+    for item in object.hidden.as_slice() {
+        lower_protected_item(changes, object, item)?;
     }
+    name_end(changes, object.span, object.name.span)
+}
 
-    #[cycle(statement)]
-    fn declaration(&mut self, declaration: &Declaration) -> Result<(), AllocError> {
-        match declaration {
-            Declaration::SubprogramBody(span, specification, _, body) => {
-                self.subprogram(*span, specification, body)
-            }
-            Declaration::TaskBody(span, name, body) => {
-                self.body(body)?;
-                self.name_end(*span, name.span)
-            }
-            Declaration::ProtectedBody(span, name, items) => {
-                self.declarations(items)?;
-                self.name_end(*span, name.span)
-            }
-            Declaration::EntryBody(span, name, formals, _, body) => {
-                self.formals(formals)?;
-                self.body(body)?;
-                self.name_end(*span, name.span)
-            }
-            _ => self.completed(declaration),
-        }
-    }
-
-    #[cycle(statement)]
-    fn declarations(&mut self, declarations: &[Declaration]) -> Result<(), AllocError> {
-        for declaration in declarations {
-            self.declaration(declaration)?;
-        }
-        Ok(())
-    }
-
-    #[cycle(statement)]
-    fn branches(&mut self, branches: &[Branch]) -> Result<(), AllocError> {
-        for branch in branches {
-            self.statements(&branch.statements)?;
-        }
-        Ok(())
-    }
-
-    #[cycle(statement)]
-    fn alternatives(&mut self, alternatives: &[Alternative]) -> Result<(), AllocError> {
-        for alternative in alternatives {
-            self.statements(&alternative.statements)?;
-        }
-        Ok(())
-    }
-
-    #[cycle(statement)]
-    fn handlers(&mut self, handlers: &[Handler]) -> Result<(), AllocError> {
-        for handler in handlers {
-            self.statements(&handler.statements)?;
-        }
-        Ok(())
-    }
-
-    #[cycle(statement)]
-    fn statement(&mut self, statement: &Statement) -> Result<(), AllocError> {
-        match statement {
-            Statement::Pragma(pragma) => self.pragma(pragma, "null;".as_bytes()),
-            Statement::If(_, branches, other) => {
-                self.branches(branches)?;
-                self.statements(other)
-            }
-            Statement::Case(_, _, alternatives) => self.alternatives(alternatives),
-            Statement::Loop(span, name, _, statements) => {
-                if let Some(name) = name {
-                    self.leave_out_label(*span, name)?;
-                }
-                self.statements(statements)
-            }
-            Statement::Block(span, name, body) => {
-                if let Some(name) = name {
-                    self.leave_out_label(*span, name)?;
-                }
-                self.body(body)
-            }
-            _ => Ok(()),
-        }
-    }
-
-    #[cycle(statement)]
-    fn statements(&mut self, statements: &[Statement]) -> Result<(), AllocError> {
-        for statement in statements {
-            self.statement(statement)?;
-        }
-        Ok(())
-    }
-
-    #[cycle(statement)]
-    fn body(&mut self, body: &Body) -> Result<(), AllocError> {
-        self.declarations(&body.declarations)?;
-        self.statements(&body.statements)?;
-        self.handlers(&body.handlers)
-    }
-
-    fn package(&mut self, package: &Package) -> Result<(), AllocError> {
-        for declaration in package.visible.as_slice() {
-            self.simple(declaration)?;
-        }
-        for declaration in package.hidden.as_slice() {
-            self.simple(declaration)?;
-        }
-        self.name_end(package.span, package.name.span)
-    }
-
-    fn package_body(&mut self, package: &PackageBody) -> Result<(), AllocError> {
-        self.body(&package.body)?;
-        self.name_end(package.span, package.name.span)
-    }
-
-    // A subprogram that is a unit: main, whose pragma says its priority.
-    fn main(&mut self, main: &UnitSubprogram) -> Result<(), AllocError> {
-        for declaration in main.body.declarations.as_slice() {
-            if let Declaration::Pragma(pragma) = declaration {
-                self.inner_pragma(main.specification.name.span.end_, &main.aspects, pragma)?;
+// A declaration that may be in a specification as well as in a body, and has none within.
+fn lower_simple(changes: &mut Changes<'_>, declaration: &Declaration) -> Result<(), AllocError> {
+    match declaration {
+        Declaration::Object(object) => separate(changes, &object.names, object.span, &[]),
+        Declaration::Number(span, names, value) => lower_number(changes, *span, names, value),
+        Declaration::Exception(span, names) => separate(changes, names, *span, &[]),
+        Declaration::Type(own) => {
+            lower_formals(changes, &own.discriminants)?;
+            match &own.definition {
+                TypeDefinition::Record(components) => lower_components(changes, components),
+                _ => Ok(()),
             }
         }
-        self.subprogram(main.span, &main.specification, &main.body)
+        Declaration::Subprogram(_, specification, _) => lower_formals(
+            changes,
+            &specification.formals,
+        ),
+        Declaration::Task(task) => lower_task(changes, task),
+        Declaration::Protected(object) => lower_protected(changes, object),
+        Declaration::Pragma(pragma) => lower_pragma(changes, pragma, &[]),
+        _ => Ok(()),
     }
+}
 
-    // Leaves out a clause that names package System alone.
-    fn clause(&mut self, span: Span, names: &[Name]) -> Result<(), AllocError> {
-        let [name] = names else {
-            return Ok(());
-        };
-        if name.prefix.name.as_bytes() == "SYSTEM".as_bytes() && name.selectors.is_empty() {
-            self.write(span, &[])?;
-        }
-        Ok(())
-    }
-
-    fn clauses(&mut self, clauses: &[Clause]) -> Result<(), AllocError> {
-        for clause in clauses {
-            match clause {
-                Clause::With(span, names) => self.clause(*span, names)?,
-                Clause::Use(own) => self.clause(own.span, &own.names)?,
-                Clause::Pragma(pragma) => self.pragma(pragma, &[])?,
+// A function by an expression, or a null procedure, in a body.
+fn lower_completed(changes: &mut Changes<'_>, declaration: &Declaration) -> Result<(), AllocError> {
+    match declaration {
+        Declaration::NullProcedure(_, specification, aspects) => {
+            lower_formals(changes, &specification.formals)?;
+            if aspects.is_empty() {
+                null_procedure(changes, specification)?;
             }
+            Ok(())
         }
-        Ok(())
+        Declaration::ExpressionFunction(_, specification, value, aspects) => {
+            lower_formals(changes, &specification.formals)?;
+            if aspects.is_empty() {
+                expression_function(changes, specification, value)?;
+            }
+            Ok(())
+        }
+        _ => lower_simple(changes, declaration),
     }
+}
 
-    fn unit(&mut self, unit: &Unit) -> Result<(), AllocError> {
-        self.clauses(&unit.clauses)?;
-        match &unit.item {
-            UnitItem::Package(package) => self.package(package),
-            UnitItem::PackageBody(package) => self.package_body(package),
-            UnitItem::Subprogram(main) => self.main(main),
-        }
+// A subprogram with its body.
+#[cycle(statement)]
+fn lower_subprogram(
+    changes: &mut Changes<'_>,
+    span: Span,
+    specification: &Specification,
+    body: &Body,
+) -> Result<(), AllocError> {
+    lower_formals(changes, &specification.formals)?;
+    if specification.result.is_some() {
+        return_condition(changes, body)?;
     }
+    lower_body(changes, body)?;
+    name_end(changes, span, specification.name.span)
+}
 
-    /// What is to be changed in the units of a text.
-    pub(crate) fn program(&mut self, program: &Program) -> Result<(), AllocError> {
-        for unit in program.units.as_slice() {
-            self.unit(unit)?;
+#[cycle(statement)]
+fn lower_declaration(
+    changes: &mut Changes<'_>,
+    declaration: &Declaration,
+) -> Result<(), AllocError> {
+    match declaration {
+        Declaration::SubprogramBody(span, specification, _, body) => {
+            lower_subprogram(changes, *span, specification, body)
         }
-        Ok(())
+        Declaration::TaskBody(span, name, body) => {
+            lower_body(changes, body)?;
+            name_end(changes, *span, name.span)
+        }
+        Declaration::ProtectedBody(span, name, items) => {
+            lower_declarations(changes, items)?;
+            name_end(changes, *span, name.span)
+        }
+        Declaration::EntryBody(span, name, formals, _, body) => {
+            lower_formals(changes, formals)?;
+            lower_body(changes, body)?;
+            name_end(changes, *span, name.span)
+        }
+        _ => lower_completed(changes, declaration),
     }
+}
+
+#[cycle(statement)]
+fn lower_declarations(
+    changes: &mut Changes<'_>,
+    declarations: &[Declaration],
+) -> Result<(), AllocError> {
+    for declaration in declarations {
+        lower_declaration(changes, declaration)?;
+    }
+    Ok(())
+}
+
+#[cycle(statement)]
+fn lower_branches(changes: &mut Changes<'_>, branches: &[Branch]) -> Result<(), AllocError> {
+    for branch in branches {
+        lower_statements(changes, &branch.statements)?;
+    }
+    Ok(())
+}
+
+#[cycle(statement)]
+fn lower_alternatives(
+    changes: &mut Changes<'_>,
+    alternatives: &[Alternative],
+) -> Result<(), AllocError> {
+    for alternative in alternatives {
+        lower_statements(changes, &alternative.statements)?;
+    }
+    Ok(())
+}
+
+#[cycle(statement)]
+fn lower_handlers(changes: &mut Changes<'_>, handlers: &[Handler]) -> Result<(), AllocError> {
+    for handler in handlers {
+        lower_occurrence(changes, handler)?;
+        lower_statements(changes, &handler.statements)?;
+    }
+    Ok(())
+}
+
+#[cycle(statement)]
+fn lower_statement(changes: &mut Changes<'_>, statement: &Statement) -> Result<(), AllocError> {
+    match statement {
+        Statement::Pragma(pragma) => lower_pragma(changes, pragma, "null;".as_bytes()),
+        Statement::Raise(_, Some(name), Some(message)) => lower_raise(changes, name, message),
+        Statement::If(_, branches, other) => {
+            lower_branches(changes, branches)?;
+            lower_statements(changes, other)
+        }
+        Statement::Case(span, _, alternatives) => {
+            complete(changes, *span, alternatives)?;
+            lower_alternatives(changes, alternatives)
+        }
+        Statement::Loop(span, name, _, statements) => {
+            if let Some(name) = name {
+                leave_out_label(changes, *span, name)?;
+            }
+            lower_statements(changes, statements)
+        }
+        Statement::Block(span, name, body) => {
+            if let Some(name) = name {
+                leave_out_label(changes, *span, name)?;
+            }
+            lower_body(changes, body)
+        }
+        _ => Ok(()),
+    }
+}
+
+#[cycle(statement)]
+fn lower_statements(changes: &mut Changes<'_>, statements: &[Statement]) -> Result<(), AllocError> {
+    for statement in statements {
+        lower_statement(changes, statement)?;
+    }
+    Ok(())
+}
+
+#[cycle(statement)]
+fn lower_body(changes: &mut Changes<'_>, body: &Body) -> Result<(), AllocError> {
+    lower_declarations(changes, &body.declarations)?;
+    lower_statements(changes, &body.statements)?;
+    lower_handlers(changes, &body.handlers)
+}
+
+fn lower_package(changes: &mut Changes<'_>, package: &Package) -> Result<(), AllocError> {
+    for declaration in package.visible.as_slice() {
+        lower_simple(changes, declaration)?;
+    }
+    for declaration in package.hidden.as_slice() {
+        lower_simple(changes, declaration)?;
+    }
+    name_end(changes, package.span, package.name.span)
+}
+
+fn lower_package_body(changes: &mut Changes<'_>, package: &PackageBody) -> Result<(), AllocError> {
+    lower_body(changes, &package.body)?;
+    name_end(changes, package.span, package.name.span)
+}
+
+// A subprogram that is a unit: main, whose pragma says its priority.
+fn lower_main(changes: &mut Changes<'_>, main: &UnitSubprogram) -> Result<(), AllocError> {
+    for declaration in main.body.declarations.as_slice() {
+        if let Declaration::Pragma(pragma) = declaration {
+            inner_pragma(
+                changes,
+                main.specification.name.span.end_,
+                &main.aspects,
+                pragma,
+            )?;
+        }
+    }
+    lower_subprogram(changes, main.span, &main.specification, &main.body)
+}
+
+// Leaves out a clause that names package System alone.
+fn lower_clause(changes: &mut Changes<'_>, span: Span, names: &[Name]) -> Result<(), AllocError> {
+    let [name] = names else {
+        return Ok(());
+    };
+    if name.prefix.name.as_bytes() == "SYSTEM".as_bytes() && name.selectors.is_empty() {
+        changes.write(span, &[])?;
+    }
+    Ok(())
+}
+
+fn lower_clauses(changes: &mut Changes<'_>, clauses: &[Clause]) -> Result<(), AllocError> {
+    for clause in clauses {
+        match clause {
+            Clause::With(span, names) => lower_clause(changes, *span, names)?,
+            Clause::Use(own) => lower_clause(changes, own.span, &own.names)?,
+            Clause::Pragma(pragma) => lower_pragma(changes, pragma, &[])?,
+        }
+    }
+    Ok(())
+}
+
+fn lower_unit(changes: &mut Changes<'_>, unit: &Unit) -> Result<(), AllocError> {
+    lower_clauses(changes, &unit.clauses)?;
+    match &unit.item {
+        UnitItem::Package(package) => lower_package(changes, package),
+        UnitItem::PackageBody(package) => lower_package_body(changes, package),
+        UnitItem::Subprogram(main) => lower_main(changes, main),
+    }
+}
+
+/// What is to be changed in the units of a text.
+pub(crate) fn lower_program(
+    changes: &mut Changes<'_>,
+    program: &Program,
+) -> Result<(), AllocError> {
+    for unit in program.units.as_slice() {
+        lower_unit(changes, unit)?;
+    }
+    Ok(())
 }

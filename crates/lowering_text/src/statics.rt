@@ -4,7 +4,7 @@ use ada2012_tree::{BinaryOperator, Expr, ExprKind, Operand, UnaryOperator};
 
 /// What is known of the value of a static expression without names.
 #[derive(Clone, Copy, PartialEq, Eq)]
-pub(crate) enum Known {
+pub enum Known {
     /// It is this number.
     Value(i64),
     /// It has a real literal in it.
@@ -39,8 +39,8 @@ fn modulus(left: i64, right: i64) -> Option<i64> {
     }
 }
 
-// A power. The exponent of one of 64 bits whose base is neither 0, 1 nor -1 is below 64.
-fn power(base: i64, exponent: i64) -> Option<i64> {
+/// A power; none where it is out of 64 bits. The exponent of one whose base is neither 0, 1 nor -1 is below 64.
+pub fn power(base: i64, exponent: i64) -> Option<i64> {
     if exponent < 0 {
         return None;
     }
@@ -93,7 +93,7 @@ fn of_chain(first: Known, operands: &[Operand]) -> Known {
 
 /// The value of an expression of literals.
 #[cycle(value)]
-pub(crate) fn value_of(e: &Expr) -> Known {
+pub fn value_of(e: &Expr) -> Known {
     match &e.kind {
         ExprKind::Integer(Some(value)) => value_or_range(i64::try_from(*value).ok()),
         ExprKind::Integer(None) => Known::OutOfRange,

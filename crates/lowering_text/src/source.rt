@@ -7,35 +7,46 @@ use std::alloc::AllocError;
 
 /// A text and its tokens.
 #[derive(Clone, Copy)]
-pub(crate) struct Source<'a> {
-    pub(crate) text: &'a [u8],
-    pub(crate) tokens: &'a [Token],
+pub struct Source<'a> {
+    pub text: &'a [u8],
+    pub tokens: &'a [Token],
 }
 
 impl<'a> Source<'a> {
     /// How many tokens begin before the place: the number of the first that doesn't.
-    pub(crate) fn number_from(&self, place: u32) -> usize {
+    pub fn number_from(&self, place: u32) -> usize {
         self.tokens.partition_point(|token| token.start < place)
     }
 
     /// The first token that begins at the place or after it.
-    pub(crate) fn token_from(&self, place: u32) -> Option<&'a Token> {
+    pub fn token_from(&self, place: u32) -> Option<&'a Token> {
         self.tokens.get(self.number_from(place))
     }
 
     /// The last token that begins before the place.
-    pub(crate) fn token_before(&self, place: u32) -> Option<&'a Token> {
+    pub fn token_before(&self, place: u32) -> Option<&'a Token> {
         self.tokens.get(self.number_from(place).checked_sub(1)?)
     }
 
+    /// The tokens that begin from one place on and before another one.
+    pub fn between(&self, from: u32, to: u32) -> &'a [Token] {
+        match self
+            .tokens
+            .get(self.number_from(from)..self.number_from(to))
+        {
+            Some(tokens) => tokens,
+            None => &[],
+        }
+    }
+
     /// The first token of this word from the place on.
-    pub(crate) fn word_from(&self, place: u32, word: Word) -> Option<&'a Token> {
+    pub fn word_from(&self, place: u32, word: Word) -> Option<&'a Token> {
         let rest = self.tokens.get(self.number_from(place)..)?;
         rest.iter().find(|token| is_word(token, word))
     }
 
     /// The bytes of a span; none where it isn't in the text.
-    pub(crate) fn bytes(&self, span: Span) -> &'a [u8] {
+    pub fn bytes(&self, span: Span) -> &'a [u8] {
         match self.text.get(span.start as usize..span.end_ as usize) {
             Some(bytes) => bytes,
             None => &[],
@@ -43,7 +54,7 @@ impl<'a> Source<'a> {
     }
 
     /// Adds the tokens of a span, with a space between two that aren't joined: without comments and line feeds.
-    pub(crate) fn copy(&self, span: Span, out: &mut Vec<u8>) -> Result<(), AllocError> {
+    pub fn copy(&self, span: Span, out: &mut Vec<u8>) -> Result<(), AllocError> {
         let Some(rest) = self.tokens.get(self.number_from(span.start)..) else {
             return Ok(());
         };
@@ -62,7 +73,7 @@ impl<'a> Source<'a> {
     }
 
     /// Is there such a delimiter in a span?
-    pub(crate) fn has_mark(&self, mark: Delimiter, span: Span) -> bool {
+    pub fn has_mark(&self, mark: Delimiter, span: Span) -> bool {
         let Some(rest) = self.tokens.get(self.number_from(span.start)..) else {
             return false;
         };
@@ -71,7 +82,7 @@ impl<'a> Source<'a> {
     }
 
     /// How often an identifier occurs in a span.
-    pub(crate) fn count(&self, name: &Text, span: Span) -> usize {
+    pub fn count(&self, name: &Text, span: Span) -> usize {
         let Some(rest) = self.tokens.get(self.number_from(span.start)..) else {
             return 0;
         };
@@ -82,28 +93,31 @@ impl<'a> Source<'a> {
 }
 
 /// The bytes that a token takes.
-pub(crate) fn span_of(token: &Token) -> Span {
+pub fn span_of(token: &Token) -> Span {
     Span {
         start: token.start,
         end_: token.end_,
     }
 }
 
-pub(crate) fn is_word(token: &Token, word: Word) -> bool {
+/// Is a token this reserved word?
+pub fn is_word(token: &Token, word: Word) -> bool {
     match token.kind {
         TokenKind::Word(own) => own == word,
         _ => false,
     }
 }
 
-pub(crate) fn is_mark(token: &Token, mark: Delimiter) -> bool {
+/// Is a token this delimiter?
+pub fn is_mark(token: &Token, mark: Delimiter) -> bool {
     match token.kind {
         TokenKind::Delimiter(own) => own == mark,
         _ => false,
     }
 }
 
-pub(crate) fn is_name(token: &Token, name: &Text) -> bool {
+/// Is a token this identifier?
+pub fn is_name(token: &Token, name: &Text) -> bool {
     match &token.kind {
         TokenKind::Identifier(own) => own.as_bytes() == name.as_bytes(),
         _ => false,
