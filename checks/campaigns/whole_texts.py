@@ -131,13 +131,19 @@ class Writer:
         return self.expression(array.index, place.deeper())
 
     def call(self, function, place):
-        actuals, is_named = [], False
+        actuals, taken, is_named = [], [], False
         for name, mode, type_, default in function.formals:
             if default and mode == "in" and self.chance(0.4):
                 is_named = True
                 continue
             is_named = is_named or self.chance(0.3)
-            actual = self.expression(type_, place.deeper()) if mode == "in" else self.target(type_, place)
+            if mode == "in":
+                # A record or an array that a procedure writes is no actual parameter of mode `in` too: whether that is copied isn't specified (RM 6.2).
+                is_copied = function.result is None and type_.kind in ("record", "array")
+                actual = self.aggregate(type_, place.deeper()) if is_copied else self.expression(type_, place.deeper())
+            else:
+                actual = self.target(type_, place, taken)
+                taken.append(actual)
             actuals.append(f"{name} => {actual}" if is_named else actual)
         if is_named and self.chance(0.3):
             first = next((at for at, actual in enumerate(actuals) if " => " in actual), len(actuals))
@@ -147,15 +153,17 @@ class Writer:
                 actuals = actuals[:first] + rest
         return f"{function.name} ({', '.join(actuals)})" if actuals else function.name
 
-    def target(self, type_, place):
-        """A whole variable of this type that may be written: callers see that there is one."""
-        return self.one([variable.name for variable in place.variables if variable.type is type_ and variable.is_writable])
+    def targets(self, type_, place):
+        """The whole variables of this type that may be written."""
+        return [variable.name for variable in place.variables if variable.type is type_ and variable.is_writable]
 
-    def has_target(self, type_, place):
-        return any(variable.type is type_ and variable.is_writable for variable in place.variables)
+    def target(self, type_, place, taken):
+        """One of these that is no other actual parameter: callers see that there is one."""
+        return self.one([name for name in self.targets(type_, place) if name not in taken])
 
     def can_call(self, subprogram, place):
-        return all(mode == "in" or self.has_target(type_, place) for _, mode, type_, _ in subprogram.formals)
+        written = [type_ for _, mode, type_, _ in subprogram.formals if mode != "in"]
+        return all(len(self.targets(type_, place)) >= written.count(type_) for type_ in written)
 
     def called(self, type_, place):
         found = [own for own in self.functions if own.result is type_ and own.name in place.callable]
@@ -527,8 +535,9 @@ class Writer:
         return Subprogram(self.new("F" if is_function else "Do"), tuple(formals), result)
 
     def place_within(self, own):
+        """What a body sees in its declarations: formal parameters of mode `out` have no values there."""
         variables = [Variable(one.name, one.type, False) for one in self.variables] if own.result else []
-        variables += [Variable(name, type_, mode != "in") for name, mode, type_, _ in own.formals]
+        variables += [Variable(name, type_, mode != "in") for name, mode, type_, _ in own.formals if mode != "out"]
         names = {one.name for one in self.functions + self.procedures}
         return Place(variables, names, is_function=own.result is not None)
 
@@ -544,6 +553,7 @@ class Writer:
         for name, mode, type_, _ in own.formals:
             if mode == "out":
                 self.put(f"{name} := {self.simple(type_)};")
+                place.variables.append(Variable(name, type_))
         self.indent -= 1
         self.statements(place.deeper(level=1), 3)
         if own.result:
