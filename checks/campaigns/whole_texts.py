@@ -126,7 +126,7 @@ class Writer:
         return self.one(found) if found else None
 
     def index(self, array, place):
-        if self.chance(0.75):
+        if place.level >= LEVELS or self.chance(0.75):
             return self.static(array.index)
         return self.expression(array.index, place.deeper())
 
