@@ -93,8 +93,10 @@ def main(words):
                 faults[re.sub(r"^.*?: ", "", re.sub(r"`[^`]*`", "`..`", said))] += 1
             if word == "different":
                 print(f"beside_gnat: other lines, kept in {place}: seed {said!r}", flush=True)
-            elif word != "not of the language" or not os.environ.get("KEEP"):
+            else:
                 shutil.rmtree(place)
+    if not came["different"]:
+        os.rmdir(folder)
     print("beside_gnat: " + ", ".join(f"{many} {word}" for word, many in came.most_common()))
     for said, many in faults.most_common(12):
         print(f"  {many} times {said}")
